@@ -1,0 +1,3 @@
+// The Terminal Control Area: its fields, records, codes and numbers.
+
+pub mod attachment;
