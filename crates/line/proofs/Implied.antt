@@ -2,7 +2,7 @@
 use mathlib.Core.Path.{_≡_, refl, sym, _∙_, ap}
 use mathlib.Core.List.{List}
 use mathlib.Core.Bool.{Bool, true, false, cond, _&&_, _||_}
-use Prim.Native.Nat.{ℕ, _≤_, _<_}
+use Prim.Native.Nat.{ℕ, _+_, _%_, _^_, _≤_, _<_, min}
 use native.Mathlib.Omega.{arith}
 use lib.Dec.{eqb, ltb, leb}
 use lib.ListN.{length, getD, set, length-set}
@@ -14,7 +14,7 @@ use Rattle.line.specs.declared.command.Command.{Command}
 use Rattle.line.specs.declared.command.Command.the-variants.{Poll, Read, Write, Start, Acknowledge, TerminalId, Reset}
 use Rattle.line.specs.declared.command.Reply.{Reply}
 use Rattle.line.specs.State.{Device, State, Passage, answered, unheard, unanswered, Choice, at}
-use Rattle.line.specs.Rules.{Permitted, Lawful, New, effect, hears, fate, device-after, act, ran, restarted, started, start-by, took, written, may-write, is-toggle, is-in, remake, byte-after, posts-event, posts-end, posts-expedited}
+use Rattle.line.specs.Rules.{Permitted, Lawful, New, effect, hears, fate, device-after, row-after, act, ran, restarted, started, start-by, took, written, may-write, is-toggle, is-in, remake, byte-after, posts-event, posts-end, posts-expedited}
 use Rattle.line.specs.Laws.{Rules-keep-what-always-holds, Size-is-fixed, Repeated-command-does-nothing-more, repeatable}
 use Rattle.line.proofs.Memory.{remake-length, remake-at}
 
@@ -139,21 +139,74 @@ effect-new Acknowledge ch d big h n w = absurd (clash w)
 effect-new TerminalId ch d big h n w = n w
 effect-new Reset ch d big h n w = restarted-new ch d big
 
-effect-lawful : (c : Command) (ch : Choice) (d : Device) → hears c d ≡ true → Lawful d → Lawful (effect c ch d)
-effect-lawful c ch d h l =
-    let n = effect-length c ch d in
-    let big = l .large in
-    let few = l .small in
-    record { large = omega arith; small = omega arith; new = effect-new c ch d big h (l .new) }
+-- the counts, the request taken last and the row keep their bounds
 
-after-lawful : (b : Bool) (p : Passage) (c : Command) (ch : Choice) (d : Device) → hears c d ≡ b → Lawful d → Lawful (device-after (cond b p unheard) c ch d)
-after-lawful false p c ch d h l = l
-after-lawful true answered c ch d h l = effect-lawful c ch d h l
-after-lawful true unheard c ch d h l = l
-after-lawful true unanswered c ch d h l = effect-lawful c ch d h l
+pub record Bounded (d : Device) : Type 0 where
+  pub eight : length (d .last) ≡ 8
+  pub taken-fits : d .taken < 2 ^ 32
+  pub events-fit : d .events < 2 ^ 32
+  pub expedited-fit : d .expedited < 2 ^ 32
+
+counted-fits : (b : Bool) (n : ℕ) → n < 2 ^ 32 → cond b ((n + 1) % 2 ^ 32) n < 2 ^ 32
+counted-fits true n h = omega arith
+counted-fits false n h = h
+
+restarted-bounded : (ch : Choice) (d : Device) → Bounded d → Bounded (restarted ch d)
+restarted-bounded ch d b = record { eight = b .eight; taken-fits = omega arith; events-fit = omega arith; expedited-fit = omega arith }
+
+act-bounded : (r : Bool) (ch : Choice) (d : Device) → Bounded d → Bounded (cond r (restarted ch d) (ran ch d))
+act-bounded true ch d b = restarted-bounded ch d b
+act-bounded false ch d b = record {
+    eight = b .eight; taken-fits = b .taken-fits;
+    events-fit = counted-fits (posts-event ch d && eqb (ch .to-dpastat) 1) (d .events) (b .events-fit);
+    expedited-fit = counted-fits (posts-expedited ch d && eqb (ch .to-exfak) 1) (d .expedited) (b .expedited-fit);
+  }
+
+started-bounded : (w s k : Bool) (ch : Choice) (d : Device) → Bounded d → Bounded (start-by w s k ch d)
+started-bounded true s k ch d b = b
+started-bounded false true k ch d b = b
+started-bounded false false true ch d b = restarted-bounded ch d b
+started-bounded false false false ch d b = record { eight = refl; taken-fits = omega arith; events-fit = b .events-fit; expedited-fit = b .expedited-fit }
+
+effect-bounded : (c : Command) (ch : Choice) (d : Device) → Bounded d → Bounded (effect c ch d)
+unfolding act started
+effect-bounded Poll ch d b = act-bounded (ch .restarts) ch d b
+effect-bounded (Read a) ch d b = b
+effect-bounded (Write a v) ch d b = record { eight = b .eight; taken-fits = b .taken-fits; events-fit = b .events-fit; expedited-fit = b .expedited-fit }
+effect-bounded Start ch d b = started-bounded (d .waiting) (eqb (at d cusyn) (d .seen)) (d .working) ch d b
+effect-bounded Acknowledge ch d b = record { eight = b .eight; taken-fits = b .taken-fits; events-fit = b .events-fit; expedited-fit = b .expedited-fit }
+effect-bounded TerminalId ch d b = b
+effect-bounded Reset ch d b = restarted-bounded ch d b
+
+effect-lawful : (c : Command) (ch : Choice) (t : State) (n : ℕ) → n ≤ 255 → hears c (t .device) ≡ true → Lawful t → Lawful (record { device = effect c ch (t .device); row = n })
+effect-lawful c ch t n held h l =
+  let d = t .device in
+  let same = effect-length c ch d in
+  let big = l .large in
+  let few = l .small in
+  let b = effect-bounded c ch d (record { eight = l .eight; taken-fits = l .taken-fits; events-fit = l .events-fit; expedited-fit = l .expedited-fit }) in
+  record {
+    large = omega arith; small = omega arith;
+    eight = b .eight; taken-fits = b .taken-fits; events-fit = b .events-fit; expedited-fit = b .expedited-fit;
+    row-held = held; new = effect-new c ch d big h (l .new);
+  }
+
+unheard-lawful : (t : State) → Lawful t → Lawful (record { device = t .device; row = min 255 (t .row + 1) })
+unheard-lawful t l = record {
+    large = l .large; small = l .small;
+    eight = l .eight; taken-fits = l .taken-fits; events-fit = l .events-fit; expedited-fit = l .expedited-fit;
+    row-held = omega arith; new = l .new;
+  }
+
+after-lawful : (b : Bool) (p : Passage) (c : Command) (ch : Choice) (t : State) → hears c (t .device) ≡ b → Lawful t
+  → Lawful (record { device = device-after (cond b p unheard) c ch (t .device); row = row-after (cond b p unheard) (t .row) })
+after-lawful false p c ch t h l = unheard-lawful t l
+after-lawful true answered c ch t h l = effect-lawful c ch t 0 (omega arith) h l
+after-lawful true unheard c ch t h l = unheard-lawful t l
+after-lawful true unanswered c ch t h l = effect-lawful c ch t (min 255 (t .row + 1)) (omega arith) h l
 
 pub rules-keep-what-always-holds : Rules-keep-what-always-holds
-rules-keep-what-always-holds t u c r l p = rw (p .1) (after-lawful (hears c (t .device)) (p .0 .passage) c (p .0) (t .device) refl l)
+rules-keep-what-always-holds t u c r l p = rw (p .1) (after-lawful (hears c (t .device)) (p .0 .passage) c (p .0) t refl l)
 
 -- repeats
 

@@ -11,7 +11,7 @@ use Rattle.line.specs.Rules.{Permitted, Lawful, effect}
 
 -- what always holds of a line still holds after any permitted sending, lost or not
 abbrev pub Rules-keep-what-always-holds : Type 0
-Rules-keep-what-always-holds = (t u : State) (c : Command) (r : Option Reply) → Lawful (t .device) → Permitted t c r u → Lawful (u .device)
+Rules-keep-what-always-holds = (t u : State) (c : Command) (r : Option Reply) → Lawful t → Permitted t c r u → Lawful u
 
 -- no sending changes the size of the memory
 abbrev pub Size-is-fixed : Type 0

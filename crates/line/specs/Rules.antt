@@ -2,7 +2,7 @@
 use mathlib.Core.Path.{_≡_}
 use mathlib.Core.List.{List, [], _∷_}
 use mathlib.Core.Bool.{Bool, true, false, cond, not, _&&_, _||_}
-use Prim.Native.Nat.{ℕ, suc, _+_, _%_, _^_, _≤_, min}
+use Prim.Native.Nat.{ℕ, suc, _+_, _%_, _^_, _≤_, _<_, min}
 use lib.Dec.{eqb, leb, ltb}
 use lib.ListN.{length, getD, set}
 use Rattle.std.specs.declared.option.Option.{Option}
@@ -230,10 +230,15 @@ pub record New (d : Device) : Type 0 where
   pub exfak-zero : at d exfak ≡ 0
 
 -- what always holds of a line
-pub record Lawful (d : Device) : Type 0 where
-  pub large : 256 ≤ length (d .memory)
-  pub small : length (d .memory) ≤ 32768
-  pub new : d .waiting ≡ true → New d
+pub record Lawful (t : State) : Type 0 where
+  pub large : 256 ≤ length (t .device .memory)
+  pub small : length (t .device .memory) ≤ 32768
+  pub eight : length (t .device .last) ≡ 8
+  pub taken-fits : t .device .taken < 2 ^ 32
+  pub events-fit : t .device .events < 2 ^ 32
+  pub expedited-fit : t .device .expedited < 2 ^ 32
+  pub row-held : t .row ≤ 255
+  pub new : t .device .waiting ≡ true → New (t .device)
 
 -- the answer that a method's result stands for
 abbrev pub polled : Option PollAnswer → Option Reply

@@ -26,7 +26,7 @@ pub trait Line {
 
     law keeps: { (s t : Self) (c : Command) (r : Option Reply) → step s c r t → Permitted (state s) c r (state t) };
 
-    law lawful: { (s : Self) → Lawful (state s .device) };
+    law lawful: { (s : Self) → Lawful (state s) };
 
     // The size of the memory. It is known to the unit and costs no command.
     fn size(&self) -> u16
