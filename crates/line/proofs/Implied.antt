@@ -157,10 +157,11 @@ restarted-bounded ch d b = record { eight = b .eight; taken-fits = omega arith; 
 act-bounded : (r : Bool) (ch : Choice) (d : Device) → Bounded d → Bounded (cond r (restarted ch d) (ran ch d))
 act-bounded true ch d b = restarted-bounded ch d b
 act-bounded false ch d b = record {
-    eight = b .eight; taken-fits = b .taken-fits;
-    events-fit = counted-fits (posts-event ch d && eqb (ch .to-dpastat) 1) (d .events) (b .events-fit);
-    expedited-fit = counted-fits (posts-expedited ch d && eqb (ch .to-exfak) 1) (d .expedited) (b .expedited-fit);
-  }
+  eight = b .eight;
+  taken-fits = b .taken-fits;
+  events-fit = counted-fits (posts-event ch d && eqb (ch .to-dpastat) 1) (d .events) (b .events-fit);
+  expedited-fit = counted-fits (posts-expedited ch d && eqb (ch .to-exfak) 1) (d .expedited) (b .expedited-fit);
+}
 
 started-bounded : (w s k : Bool) (ch : Choice) (d : Device) → Bounded d → Bounded (start-by w s k ch d)
 started-bounded true s k ch d b = b
@@ -180,26 +181,36 @@ effect-bounded Reset ch d b = restarted-bounded ch d b
 
 effect-lawful : (c : Command) (ch : Choice) (t : State) (n : ℕ) → n ≤ 255 → hears c (t .device) ≡ true → Lawful t → Lawful (record { device = effect c ch (t .device); row = n })
 effect-lawful c ch t n held h l =
-  let d = t .device in
-  let same = effect-length c ch d in
-  let big = l .large in
-  let few = l .small in
-  let b = effect-bounded c ch d (record { eight = l .eight; taken-fits = l .taken-fits; events-fit = l .events-fit; expedited-fit = l .expedited-fit }) in
-  record {
-    large = omega arith; small = omega arith;
-    eight = b .eight; taken-fits = b .taken-fits; events-fit = b .events-fit; expedited-fit = b .expedited-fit;
-    row-held = held; new = effect-new c ch d big h (l .new);
-  }
+    let d = t .device in
+    let same = effect-length c ch d in
+    let big = l .large in
+    let few = l .small in
+    let b = effect-bounded c ch d (record { eight = l .eight; taken-fits = l .taken-fits; events-fit = l .events-fit; expedited-fit = l .expedited-fit }) in
+    record {
+      large = omega arith;
+      small = omega arith;
+      eight = b .eight;
+      taken-fits = b .taken-fits;
+      events-fit = b .events-fit;
+      expedited-fit = b .expedited-fit;
+      row-held = held;
+      new = effect-new c ch d big h (l .new);
+    }
 
 unheard-lawful : (t : State) → Lawful t → Lawful (record { device = t .device; row = min 255 (t .row + 1) })
 unheard-lawful t l = record {
-    large = l .large; small = l .small;
-    eight = l .eight; taken-fits = l .taken-fits; events-fit = l .events-fit; expedited-fit = l .expedited-fit;
-    row-held = omega arith; new = l .new;
-  }
+  large = l .large;
+  small = l .small;
+  eight = l .eight;
+  taken-fits = l .taken-fits;
+  events-fit = l .events-fit;
+  expedited-fit = l .expedited-fit;
+  row-held = omega arith;
+  new = l .new;
+}
 
 after-lawful : (b : Bool) (p : Passage) (c : Command) (ch : Choice) (t : State) → hears c (t .device) ≡ b → Lawful t
-  → Lawful (record { device = device-after (cond b p unheard) c ch (t .device); row = row-after (cond b p unheard) (t .row) })
+    → Lawful (record { device = device-after (cond b p unheard) c ch (t .device); row = row-after (cond b p unheard) (t .row) })
 after-lawful false p c ch t h l = unheard-lawful t l
 after-lawful true answered c ch t h l = effect-lawful c ch t 0 (omega arith) h l
 after-lawful true unheard c ch t h l = unheard-lawful t l

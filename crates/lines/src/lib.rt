@@ -1,0 +1,2 @@
+// The lines that are supplied: devices in memory, behind a coax that loses nothing.
+mod simulated;

@@ -1,0 +1,168 @@
+ghost use mathlib.Core.Path.{_≡_};
+ghost use mathlib.Core.Bool.{false, not, _&&_, _||_};
+ghost use Prim.Native.Nat.{ℕ, _+_, _<_, min};
+ghost use lib.Dec.{eqb, leb};
+ghost use lib.ListN.{getD};
+ghost use Rattle.std.specs.Of.Vec.{vec-len, vec-items};
+ghost use Rattle.tca.specs.Fields.{cusyn, unit-half, response-places};
+ghost use Rattle.line.specs.State.{at};
+ghost use Rattle.line.specs.Rules.{after, answer, byte, done, restarted, took, is-toggle, is-in, says};
+ghost use Rattle.line.specs.declared.command.Command.the-variants.{Read, Write, Start, Acknowledge, TerminalId, Reset};
+ghost use Rattle.lines.specs.Simulated.{state-of, device-of, obliging};
+use crate::simulated::SimulatedDevice;
+use line::command::PollAnswer;
+use std::alloc::AllocError;
+use std::alloc::Global;
+
+impl SimulatedDevice {
+    fn miss(&mut self)
+        ensures { λ _. ⌜ state-of (now (self .exit)) ≡ record { device = device-of (now (self .entry)); row = min 255 (now (self .entry) .row + 1) } ⌝ }
+    {
+        self.row = self.row.saturating_add(1);
+    }
+
+    pub fn read(&mut self, address: u16) -> Option<u8>
+        ensures after { λ r. ⌜ state-of (now (self .exit)) ≡ after (Read address) obliging (state-of (now (self .entry))) ⌝ }
+        ensures value { λ r. ⌜ byte r ≡ answer (Read address) obliging (state-of (now (self .entry))) ⌝ }
+    {
+        let at = address as usize;
+        if at < self.memory.len() {
+            self.row = 0;
+            Some(self.memory[at])
+        } else {
+            self.miss();
+            None
+        }
+    }
+
+    pub fn acknowledge(&mut self) -> bool
+        ensures after { λ r. ⌜ state-of (now (self .exit)) ≡ after Acknowledge obliging (state-of (now (self .entry))) ⌝ }
+        ensures value { λ r. ⌜ done r ≡ answer Acknowledge obliging (state-of (now (self .entry))) ⌝ }
+    {
+        self.waiting = false;
+        self.row = 0;
+        true
+    }
+
+    pub fn terminal_id(&mut self) -> bool
+        ensures after { λ r. ⌜ state-of (now (self .exit)) ≡ after TerminalId obliging (state-of (now (self .entry))) ⌝ }
+        ensures value { λ r. ⌜ done r ≡ answer TerminalId obliging (state-of (now (self .entry))) ⌝ }
+    {
+        self.row = 0;
+        true
+    }
+
+    pub fn write(&mut self, address: u16, value: u8) -> bool
+        ensures after { λ r. ⌜ state-of (now (self .exit)) ≡ after (Write address value) obliging (state-of (now (self .entry))) ⌝ }
+        ensures value { λ r. ⌜ done r ≡ answer (Write address value) obliging (state-of (now (self .entry))) ⌝ }
+    {
+        let at = address as usize;
+        if at < self.memory.len() && hears_write(address, value) {
+            self.memory[at] = value;
+            self.row = 0;
+            true
+        } else {
+            self.miss();
+            false
+        }
+    }
+
+    // Whether the device's program finds what a Poll then says.
+    pub fn says(&self) -> PollAnswer
+        ensures { λ r. ⌜ r ≡ says (device-of (now (self .entry))) ⌝ }
+    {
+        if self.waiting {
+            PollAnswer::Reset
+        } else if self.memory[0] == 0 && self.memory[1] == 0 && self.memory[0x26] == 0 {
+            PollAnswer::Clean
+        } else {
+            PollAnswer::Status
+        }
+    }
+
+    fn restart(&mut self)
+        ensures { λ _. ⌜ state-of (now (self .exit)) ≡ record { device = restarted obliging (device-of (now (self .entry))); row = now (self .entry) .row } ⌝ }
+    {
+        zero(&mut self.memory);
+        self.waiting = true;
+        self.working = false;
+        self.seen = 0;
+        self.taken = 0;
+        self.events = 0;
+        self.expedited = 0;
+    }
+
+    pub fn reset(&mut self) -> bool
+        ensures after { λ r. ⌜ state-of (now (self .exit)) ≡ after Reset obliging (state-of (now (self .entry))) ⌝ }
+        ensures value { λ r. ⌜ done r ≡ answer Reset obliging (state-of (now (self .entry))) ⌝ }
+    {
+        self.restart();
+        self.row = 0;
+        true
+    }
+
+    // Whether a Start now is more than a repeat: no restart waits, and CUSYN is not the value seen.
+    fn sees_request(&self) -> bool
+        ensures { λ r. ⌜ r ≡ (not (now (self .entry) .waiting) && not (eqb (at (device-of (now (self .entry))) cusyn) (now (self .entry) .seen))) ⌝ }
+    {
+        !self.waiting && self.memory[0x45] != self.seen
+    }
+
+    // The request that stands in memory is taken.
+    fn take(&mut self)
+        requires { ⌜ now self .waiting ≡ false ⌝ }
+        ensures { λ _. ⌜ state-of (now (self .exit)) ≡ record { device = took (device-of (now (self .entry))); row = now (self .entry) .row } ⌝ }
+    {
+        let m = &self.memory;
+        let request = [
+            m[0x44],
+            m[0x46],
+            m[0x47],
+            m[0x48],
+            m[0x49],
+            m[0x42],
+            m[0x40],
+            m[0x41],
+        ];
+        let cusyn = m[0x45];
+        self.last = request;
+        self.seen = cusyn;
+        self.taken = self.taken.wrapping_add(1);
+        self.working = true;
+    }
+
+    pub fn start(&mut self) -> bool
+        ensures after { λ r. ⌜ state-of (now (self .exit)) ≡ after Start obliging (state-of (now (self .entry))) ⌝ }
+        ensures value { λ r. ⌜ done r ≡ answer Start obliging (state-of (now (self .entry))) ⌝ }
+    {
+        self.row = 0;
+        if !self.sees_request() {
+            return true;
+        }
+        if self.working {
+            self.restart();
+            return true;
+        }
+        self.take();
+        true
+    }
+}
+
+// Whether a Write is heard where there is memory: in the unit's half and beyond, and a zero to a toggle.
+fn hears_write(address: u16, value: u8) -> bool
+    ensures { λ r. ⌜ r ≡ (leb unit-half address || ((is-toggle address && eqb value 0) || is-in response-places address)) ⌝ }
+{
+    match address {
+        0x00 | 0x01 | 0x26 => value == 0,
+        _ => address >= 0x40,
+    }
+}
+
+fn zero(memory: &mut Vec<u8>)
+    ensures len { λ _. ⌜ vec-len (now (memory .exit)) ≡ vec-len (now (memory .entry)) ⌝ }
+    ensures places { λ _. ⌜ ((k : ℕ) → k < vec-len (now (memory .exit)) → getD (vec-items (now (memory .exit))) k 0 ≡ 0) ⌝ }
+{
+    for byte in memory.iter_mut() {
+        *byte = 0;
+    }
+}
