@@ -1,3 +1,4 @@
 // The Terminal Control Area: its fields, records, codes and numbers.
 
 pub mod attachment;
+pub mod field;
