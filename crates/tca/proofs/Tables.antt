@@ -70,6 +70,7 @@ abbrev pub sound? : List Field → Bool
 sound? fs = all? own? fs && pairs? fs
 
 pub sound-is : (fs : List Field) → T (sound? fs) → Sound fs
-sound-is fs t = record
-  { owned = λ i h. in-is (getD fs i nowhere) _ (all-at own? fs (left (all? own? fs) (pairs? fs) t) i h)
-  ; apart = pairs-at fs (right (all? own? fs) (pairs? fs) t) }
+sound-is fs t = record {
+  owned = λ i h. in-is (getD fs i nowhere) _ (all-at own? fs (left (all? own? fs) (pairs? fs) t) i h);
+  apart = pairs-at fs (right (all? own? fs) (pairs? fs) t);
+}

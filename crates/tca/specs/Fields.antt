@@ -127,3 +127,7 @@ unit-half = 0x40
 
 abbrev pub data-area : ℕ
 data-area = 0x80
+
+-- the bytes of the expedited record that the unit's response goes to
+abbrev pub response-places : List ℕ
+response-places = exfd1 ∷ exfd2 ∷ exfd3 ∷ exfd4 ∷ []

@@ -29,7 +29,7 @@ pub record Sound (fs : List Field) : Type 0 where
 
 abbrev pub table : List Field
 table =
-      record { name = Dpastat; address = dpastat; length = 1; half = Device }
+    record { name = Dpastat; address = dpastat; length = 1; half = Device }
     ∷ record { name = Dpsstat; address = dpsstat; length = 1; half = Device }
     ∷ record { name = Dssv; address = dssv; length = 1; half = Device }
     ∷ record { name = Dssp; address = dssp; length = 1; half = Device }

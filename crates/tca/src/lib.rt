@@ -2,3 +2,5 @@
 
 pub mod attachment;
 pub mod field;
+pub mod request;
+pub mod status;
