@@ -1,3 +1,5 @@
+pub mod Codes
 pub mod Fields
+pub mod Numbers
 pub mod Records
 pub mod Table

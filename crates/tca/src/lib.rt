@@ -2,5 +2,7 @@
 
 pub mod attachment;
 pub mod field;
+pub mod function;
+pub mod number;
 pub mod request;
 pub mod status;
