@@ -60,7 +60,7 @@ listed n (m ∷ ms) = eqb n m || listed n ms
 -- the first parameters that a status report takes
 abbrev pub reports : List ℕ
 reports =
-      0x01 ∷ 0x02 ∷ 0x03
+    0x01 ∷ 0x02 ∷ 0x03
     ∷ 0x10
     ∷ 0x20
     ∷ 0x30 ∷ 0x31

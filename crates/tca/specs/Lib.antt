@@ -1,4 +1,5 @@
 pub mod Codes
+pub mod Families
 pub mod Fields
 pub mod Numbers
 pub mod Records

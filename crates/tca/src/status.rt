@@ -1,5 +1,21 @@
 // What the device reports: the status that answers a request, the event that comes by itself, and the
 // expedited status.
+use crate::field::DAEP;
+use crate::field::DAEP2;
+use crate::field::DAEP3;
+use crate::field::DAEP4;
+use crate::field::DAEV;
+use crate::field::DALTAD;
+use crate::field::DSSP;
+use crate::field::DSSP2;
+use crate::field::DSSP3;
+use crate::field::DSSV;
+use crate::field::EXFD1;
+use crate::field::EXFD2;
+use crate::field::EXFD3;
+use crate::field::EXFD4;
+use crate::field::EXFLT;
+use crate::field::EXFRQ;
 ghost use mathlib.Core.Path.{_≡_};
 ghost use Rattle.tca.specs.Records.{synchronous-of, synchronous-bytes, event-of, event-bytes, expedited-of, expedited-bytes};
 
@@ -10,6 +26,9 @@ pub struct SynchronousStatus {
     pub dssp2: u8,
     pub dssp3: u8,
 }
+
+// Where each byte stands, in record order.
+pub const SYNCHRONOUS_PLACES: [u16; 4] = [DSSV.address, DSSP.address, DSSP2.address, DSSP3.address];
 
 impl SynchronousStatus {
     pub fn from_bytes(bytes: [u8; 4]) -> SynchronousStatus
@@ -42,6 +61,16 @@ pub struct Event {
     pub daep4: u8,
     pub daltad: u8,
 }
+
+// Where each byte stands, in record order.
+pub const EVENT_PLACES: [u16; 6] = [
+    DAEV.address,
+    DAEP.address,
+    DAEP2.address,
+    DAEP3.address,
+    DAEP4.address,
+    DALTAD.address,
+];
 
 impl Event {
     pub fn from_bytes(bytes: [u8; 6]) -> Event
@@ -83,6 +112,16 @@ pub struct ExpeditedStatus {
     pub exfd3: u8,
     pub exfd4: u8,
 }
+
+// Where each byte stands, in record order.
+pub const EXPEDITED_PLACES: [u16; 6] = [
+    EXFRQ.address,
+    EXFLT.address,
+    EXFD1.address,
+    EXFD2.address,
+    EXFD3.address,
+    EXFD4.address,
+];
 
 impl ExpeditedStatus {
     pub fn from_bytes(bytes: [u8; 6]) -> ExpeditedStatus
