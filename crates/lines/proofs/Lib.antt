@@ -1,2 +1,5 @@
 pub mod Zeros
 pub mod Starts
+pub mod Rows
+pub mod Posting
+pub mod Terminals

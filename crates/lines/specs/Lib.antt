@@ -1,2 +1,4 @@
 pub mod New
 pub mod Simulated
+pub mod Posts
+pub mod Terminal

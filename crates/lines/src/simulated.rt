@@ -6,6 +6,7 @@ ghost use Rattle.std.specs.Of.Vec.{vec-len, vec-items};
 ghost use Rattle.lines.specs.New.{is-new};
 
 mod commands;
+mod posts;
 
 // The device behind a supplied line, and the line's row. It answers whatever the rules let it answer; what
 // its own program does within a Poll is for the line that holds it.

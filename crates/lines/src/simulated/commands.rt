@@ -15,6 +15,12 @@ use std::alloc::AllocError;
 use std::alloc::Global;
 
 impl SimulatedDevice {
+    pub fn size(&self) -> u16
+        ensures { λ r. ⌜ r ≡ vec-len (now (self .entry) .memory) ⌝ }
+    {
+        self.memory.len() as u16
+    }
+
     fn miss(&mut self)
         ensures { λ _. ⌜ state-of (now (self .exit)) ≡ record { device = device-of (now (self .entry)); row = min 255 (now (self .entry) .row + 1) } ⌝ }
     {
