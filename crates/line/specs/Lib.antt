@@ -1,3 +1,4 @@
 pub mod State
 pub mod Rules
 pub mod Laws
+pub mod Told

@@ -10,6 +10,7 @@ ghost use Rattle.line.specs.declared.command.Reply.{Reply};
 
 pub mod command;
 pub mod laws;
+pub mod telling;
 
 use command::Command;
 use command::PollAnswer;

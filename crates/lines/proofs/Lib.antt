@@ -3,3 +3,4 @@ pub mod Starts
 pub mod Rows
 pub mod Posting
 pub mod Terminals
+pub mod Kept

@@ -13,15 +13,15 @@ use Rattle.tca.specs.Fields.{dpastat, dpsstat, exfak, event-places, synchronous
 use Rattle.line.specs.State.{Device, Choice, answered, at}
 use Rattle.line.specs.Rules.{is-in, act, counted, posts-event, posts-end, posts-expedited}
 use Rattle.line.proofs.Acts.{Leaves, left}
-use Rattle.lines.specs.Posts.{posted}
-use Rattle.lines.proofs.Rows.{row-length, row-other, apart, beyond}
+use Rattle.lines.specs.Posts.{posted, put-row}
+use Rattle.lines.proofs.Rows.{row-length, row-other, row-read, read-row, read-same, distinct, all-below, apart, beyond}
 
 -- one status, posted or not
 
 abbrev pub post-if : Bool → ℕ → List ℕ → List ℕ → List ℕ → List ℕ
 post-if b t ps bs m = cond b (posted t ps bs m) m
 
-if-length : (b : Bool) (t : ℕ) (ps bs m : List ℕ) → length (post-if b t ps bs m) ≡ length m
+pub if-length : (b : Bool) (t : ℕ) (ps bs m : List ℕ) → length (post-if b t ps bs m) ≡ length m
 if-length true t ps bs m = length-set _ t 1 ∙ row-length ps bs m
 if-length false t ps bs m = refl
 
@@ -40,9 +40,14 @@ if-not : (b : Bool) (t : ℕ) (ps bs m : List ℕ) (j : ℕ) → b ≡ false →
 if-not true t ps bs m j e = absurd (clash (sym e))
 if-not false t ps bs m j e = refl
 
-if-toggle : (b : Bool) (t : ℕ) (ps bs m : List ℕ) → t < length m → getD (post-if b t ps bs m) t 0 ≡ cond b (cond b 1 0) (getD m t 0)
+pub if-toggle : (b : Bool) (t : ℕ) (ps bs m : List ℕ) → t < length m → getD (post-if b t ps bs m) t 0 ≡ cond b (cond b 1 0) (getD m t 0)
 if-toggle true t ps bs m h = getD-set-same _ t 1 0 (rw (row-length ps bs m) h)
 if-toggle false t ps bs m h = refl
+
+-- where it was posted, its record is read
+pub if-row : (b : Bool) (t : ℕ) (ps bs m : List ℕ) → b ≡ true → is-in ps t ≡ false → distinct ps ≡ true → all-below data-area ps ≡ true → data-area ≤ length m → length bs ≡ length ps → read-row ps (post-if b t ps bs m) ≡ bs
+if-row true t ps bs m e o d l h n = read-same ps (put-row ps bs m) (posted t ps bs m) (λ j i. getD-set-other _ t j 1 0 (λ (q : j ≡ t). clash (sym o ∙ rw q at i))) ∙ row-read data-area ps bs m d l h n
+if-row false t ps bs m e o d l h n = absurd (clash e)
 
 -- all three
 

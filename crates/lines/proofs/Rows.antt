@@ -3,11 +3,12 @@ use mathlib.Core.Path.{_≡_, refl, sym, _∙_}
 use mathlib.Core.List.{List, [], _∷_}
 use mathlib.Core.Bool.{Bool, true, false, not, cond, _&&_}
 use Prim.Native.Nat.{ℕ, _+_, _<_, _≤_}
+use native.Mathlib.Nat.{suc-inj}
 use native.Mathlib.Omega.{arith}
 use lib.Dec.{eqb, ltb}
 use lib.ListN.{length, getD, set, drop, length-set}
-use lib.Seq.{getD-set-other}
-use borrow.Author.Tests.{clash, eqb-true, eqb-false, ne-eqb, ltb-true}
+use lib.Seq.{getD-set-same, getD-set-other}
+use borrow.Author.Tests.{clash, eq-eqb, eqb-true, eqb-false, ne-eqb, ltb-true}
 use Rattle.std.proofs.shelf.Lists.{drop-more, drop-all}
 use Rattle.line.specs.Rules.{is-in}
 use Rattle.lines.specs.Posts.{put-row}
@@ -60,3 +61,54 @@ beyond n (x ∷ xs) j h l = one (ltb x n) refl h (λ k. beyond n xs j k l)
     one : (b : Bool) → ltb x n ≡ b → (b && all-below n xs) ≡ true → (all-below n xs ≡ true → is-in xs j ≡ false) → cond (eqb j x) true (is-in xs j) ≡ false
     one true q h f = let k : x < n = ltb-true x n q in let e : eqb j x ≡ false = ne-eqb j x (λ s. omega arith) in rw e (f h)
     one false q h f = absurd (clash h)
+
+-- what was put at a row of addresses with no repeats is read there
+
+abbrev pub distinct : List ℕ → Bool
+distinct [] = true
+distinct (x ∷ xs) = not (is-in xs x) && distinct xs
+
+abbrev pub read-row : List ℕ → List ℕ → List ℕ
+read-row [] m = []
+read-row (p ∷ ps) m = getD m p 0 ∷ read-row ps m
+
+both : (a b : Bool) → (not a && b) ≡ true → (a ≡ false) × (b ≡ true)
+both true b h = absurd (clash h)
+both false b h = (refl, h)
+
+less : (a b : ℕ) (r : Bool) → (ltb a b && r) ≡ true → (a < b) × (r ≡ true)
+less a b r h = one (ltb a b) refl h
+  where
+    one : (t : Bool) → ltb a b ≡ t → (t && r) ≡ true → (a < b) × (r ≡ true)
+    one true q h = (ltb-true a b q, h)
+    one false q h = absurd (clash h)
+
+pub row-read : (n : ℕ) (ps bs m : List ℕ) → distinct ps ≡ true → all-below n ps ≡ true → n ≤ length m → length bs ≡ length ps → read-row ps (put-row ps bs m) ≡ bs
+row-read n [] [] m d l h e = refl
+row-read n [] (b ∷ bs) m d l h e = let z : ⊥ = omega (arith, e) in absurd z
+row-read n (p ∷ ps) [] m d l h e = let z : ⊥ = omega (arith, e) in absurd z
+row-read n (p ∷ ps) (b ∷ bs) m d l h e =
+    let f = both (is-in ps p) (distinct ps) d in
+    let g = less p n (all-below n ps) l in
+    let k : p < length m = omega (arith, g .0) in
+    let here : getD (put-row ps bs (set m p b)) p 0 ≡ b = row-other ps bs (set m p b) p (f .0) ∙ getD-set-same m p b 0 k in
+    let rest = row-read n ps bs (set m p b) (f .1) (g .1) (rw (length-set m p b) h) (suc-inj e) in
+    rw (here, rest) refl
+
+-- a row of addresses that a change leaves alone reads the same
+pub read-same : (ps m k : List ℕ) → ((j : ℕ) → is-in ps j ≡ true → getD k j 0 ≡ getD m j 0) → read-row ps k ≡ read-row ps m
+read-same [] m k f = refl
+read-same (p ∷ ps) m k f =
+    let here = f p (first-in p ps) in
+    let rest = read-same ps m k (λ j i. f j (later-in p ps j i)) in
+    rw (here, rest) refl
+  where
+    first-in : (p : ℕ) (ps : List ℕ) → is-in (p ∷ ps) p ≡ true
+    first-in p ps = rw (eq-eqb p p refl) refl
+
+    later-in : (p : ℕ) (ps : List ℕ) (j : ℕ) → is-in ps j ≡ true → is-in (p ∷ ps) j ≡ true
+    later-in p ps j i = rw i (either (eqb j p))
+      where
+        either : (b : Bool) → cond b true true ≡ true
+        either true = refl
+        either false = refl

@@ -25,25 +25,25 @@ use Rattle.lines.proofs.Posting.{post-if, if-other, choice, after-posts, acts}
 
 -- whether it posts, and the bytes
 
-due-event : Option Event → Device → Bool
+unfoldable pub due-event : Option Event → Device → Bool
 due-event None d = false
 due-event (Some e) d = free dpastat d
 
-due-end : Option SynchronousStatus → Device → Bool
+unfoldable pub due-end : Option SynchronousStatus → Device → Bool
 due-end None d = false
 due-end (Some e) d = free dpsstat d && d .working
 
-event-list : Option Event → List ℕ
+unfoldable pub event-list : Option Event → List ℕ
 event-list None = []
 event-list (Some e) = event-bytes e
 
-end-list : Option SynchronousStatus → List ℕ
+unfoldable pub end-list : Option SynchronousStatus → List ℕ
 end-list None = []
 end-list (Some e) = synchronous-bytes e
 
 -- the device after an event, and after an end
 
-evented : Bool → List ℕ → Device → Device
+unfoldable pub evented : Bool → List ℕ → Device → Device
 evented b bs d = record {
   memory = post-if b dpastat event-places bs (d .memory);
   waiting = d .waiting;
@@ -55,7 +55,7 @@ evented b bs d = record {
   expedited = d .expedited;
 }
 
-ended : Bool → List ℕ → Device → Device
+unfoldable pub ended : Bool → List ℕ → Device → Device
 ended b bs d = record {
   memory = post-if b dpsstat synchronous-places bs (d .memory);
   waiting = d .waiting;
@@ -72,7 +72,7 @@ unfolding evented
 by-event e d true = refl
 by-event e d false = refl
 
-event-is : (o : Option Event) (d : Device) → post-event o d ≡ evented (due-event o d) (event-list o) d
+pub event-is : (o : Option Event) (d : Device) → post-event o d ≡ evented (due-event o d) (event-list o) d
 unfolding evented due-event event-list
 event-is None d = refl
 event-is (Some e) d = by-event e d (free dpastat d)
@@ -88,7 +88,7 @@ end-is None d = refl
 end-is (Some e) d = by-end e d (free dpsstat d && d .working)
 
 -- an event leaves what decides on an end
-still-due : (o : Option SynchronousStatus) (b : Bool) (bs : List ℕ) (d : Device) → due-end o (evented b bs d) ≡ due-end o d
+pub still-due : (o : Option SynchronousStatus) (b : Bool) (bs : List ℕ) (d : Device) → due-end o (evented b bs d) ≡ due-end o d
 unfolding due-end evented
 still-due None b bs d = refl
 still-due (Some e) b bs d = rw (if-other b dpastat event-places bs (d .memory) dpsstat refl) refl
@@ -129,14 +129,15 @@ module _ (event : Option Event) (end : Option SynchronousStatus) (d : Device) (b
   abbrev ends : Bool
   ends = due-end end d
 
+  -- what a Poll makes of the device
+  pub after-poll : post-end end (post-event event d) ≡ ended ends (end-list end) (evented due (event-list event) d)
+  after-poll = end-is end (post-event event d) ∙ rw (event-is event d, still-due end due (event-list event) d) refl
+
   acted : act (choice d due ends false (event-list event) (end-list end) []) d ≡ post-end end (post-event event d)
   unfolding evented ended
   acted =
-      let one = event-is event d in
-      let two = end-is end (post-event event d) in
-      let same = still-due end due (event-list event) d in
       acts d due ends false (event-list event) (end-list end) [] big (posts-e event ends false (event-list event) (end-list end) []) (posts-s end due false (event-list event) (end-list end) []) (never (not (d .waiting)) (eqb (at d exfak) 0))
-      ∙ sym (two ∙ rw (one, same) refl)
+      ∙ sym after-poll
 
 poll-permitted : (o : Own) (u : State) (r : Option Reply) → 256 ≤ length (o .state .device .memory) → u ≡ polled o .state → r ≡ Some (Polled (says (polled o .state .device))) → Permitted (o .state) Poll r u
 poll-permitted o u r big e q =

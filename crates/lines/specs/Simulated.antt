@@ -1,6 +1,8 @@
 -- What a simulated device tells.
 use mathlib.Core.List.{List, []}
-use mathlib.Core.Bool.{false}
+use mathlib.Core.Bool.{true, false}
+use Prim.Native.Nat.{ℕ}
+use lib.ListN.{replicate}
 use Rattle.std.specs.Of.Vec.{vec-items}
 use Rattle.line.specs.State.{Device, State, Choice, answered}
 use Rattle.lines.specs.declared.simulated.SimulatedDevice.{SimulatedDevice}
@@ -24,3 +26,19 @@ state-of s = record { device = device-of s; row = s .row }
 -- after a restart.
 abbrev pub obliging : Choice
 obliging = record { passage = answered; restarts = false; to-dpastat = 0; to-dpsstat = 0; to-exfak = 0; bytes = [] }
+
+-- a device of n bytes as it is switched on: zeros, and a restart waits
+abbrev pub switched-on : ℕ → State
+switched-on n = record {
+  device = record {
+    memory = replicate n 0;
+    waiting = true;
+    working = false;
+    seen = 0;
+    last = replicate 8 0;
+    taken = 0;
+    events = 0;
+    expedited = 0;
+  };
+  row = 0;
+}

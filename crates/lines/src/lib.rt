@@ -1,4 +1,5 @@
 // The lines that are supplied: devices in memory, behind a coax that loses nothing.
+pub mod promises;
 mod simulated;
 mod terminal;
 

@@ -1,20 +1,58 @@
 ghost use mathlib.Core.Path.{_≡_};
 ghost use mathlib.Core.Bool.{false, not, _&&_, _||_};
-ghost use Prim.Native.Nat.{ℕ, _+_, _<_, min};
+ghost use Prim.Native.Nat.{ℕ, _+_, _<_, _≤_, min};
 ghost use lib.Dec.{eqb, leb};
 ghost use lib.ListN.{getD};
 ghost use Rattle.std.specs.Of.Vec.{vec-len, vec-items};
 ghost use Rattle.tca.specs.Fields.{cusyn, unit-half, response-places};
+ghost use Rattle.std.specs.Vec.{made};
 ghost use Rattle.line.specs.State.{at};
+ghost use Rattle.line.specs.Told.{told};
 ghost use Rattle.line.specs.Rules.{after, answer, byte, done, restarted, took, is-toggle, is-in, says};
 ghost use Rattle.line.specs.declared.command.Command.the-variants.{Read, Write, Start, Acknowledge, TerminalId, Reset};
-ghost use Rattle.lines.specs.Simulated.{state-of, device-of, obliging};
+ghost use Rattle.lines.specs.Simulated.{state-of, device-of, obliging, switched-on};
 use crate::simulated::SimulatedDevice;
 use line::command::PollAnswer;
+use line::telling::Telling;
 use std::alloc::AllocError;
 use std::alloc::Global;
 
 impl SimulatedDevice {
+    pub fn switch_on(heap: Global, size: u16) -> Result<SimulatedDevice, AllocError>
+        requires { ⌜ 256 ≤ size ⌝ ∗ ⌜ size ≤ 32768 ⌝ }
+        ensures { λ r. ⌜ made r (λ s. state-of s ≡ switched-on size) ⌝ }
+    {
+        let mut memory = Vec::new(heap);
+        memory.resize(size as usize, 0)?;
+        Ok(SimulatedDevice {
+            memory,
+            waiting: true,
+            working: false,
+            seen: 0,
+            last: [0; 8],
+            taken: 0,
+            events: 0,
+            expedited: 0,
+            row: 0,
+        })
+    }
+
+    pub fn telling(&self) -> Telling<'_>
+        ensures { λ r. ⌜ told r ≡ state-of (now (self .entry)) ⌝ }
+    {
+        Telling {
+            memory: self.memory.as_slice(),
+            waiting: self.waiting,
+            working: self.working,
+            seen: self.seen,
+            last: self.last,
+            taken: self.taken,
+            events: self.events,
+            expedited: self.expedited,
+            row: self.row,
+        }
+    }
+
     pub fn size(&self) -> u16
         ensures { λ r. ⌜ r ≡ vec-len (now (self .entry) .memory) ⌝ }
     {

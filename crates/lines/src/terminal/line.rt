@@ -1,22 +1,38 @@
 ghost use mathlib.Core.Path.{_≡_};
 ghost use lib.ListN.{length};
 ghost use Rattle.std.specs.declared.option.Option.{Option};
-ghost use Rattle.std.specs.declared.option.Option.the-variants.{Some};
+ghost use Rattle.std.specs.declared.option.Option.the-variants.{Some, None};
+ghost use Rattle.std.specs.Vec.{made};
 ghost use Rattle.line.specs.State.{State};
 ghost use Rattle.line.specs.declared.command.Command.{Command};
 ghost use Rattle.line.specs.declared.command.Reply.{Reply};
-ghost use Rattle.lines.specs.Simulated.{state-of, device-of};
+ghost use Rattle.lines.specs.Simulated.{state-of, device-of, switched-on};
 ghost use Rattle.lines.specs.Terminal.{Own, own, polled, post-event, held-event, post-end, held-end, Steps};
 use crate::simulated::SimulatedDevice;
 use crate::terminal::Terminal;
 use line::Line;
 use line::command::PollAnswer;
+use line::telling::Telling;
+use line::telling::Tells;
+use std::alloc::AllocError;
+use std::alloc::Global;
 use tca::family::AsynchronousFamily;
 use tca::family::SynchronousFamily;
 use tca::status::Event;
 use tca::status::SynchronousStatus;
 
 impl Terminal {
+    // A terminal as it is switched on, with nothing told.
+    pub fn new(heap: Global) -> Result<Terminal, AllocError>
+        ensures { λ r. ⌜ made r (λ s. own s ≡ record { state = switched-on 256; event = None; end = None }) ⌝ }
+    {
+        Ok(Terminal {
+            device: SimulatedDevice::switch_on(heap, 256)?,
+            event: None,
+            end: None,
+        })
+    }
+
     // The event that stands next to be posted.
     pub fn tell_event(&mut self, event: Event)
         ensures { λ _. ⌜ own (now (self .exit)) ≡ record { state = state-of (now (self .entry) .device); event = Some event; end = now (self .entry) .end } ⌝ }
@@ -100,5 +116,11 @@ pub impl Line for Terminal as TerminalLine {
 
     fn reset(&mut self) -> bool {
         self.device.reset()
+    }
+}
+
+pub impl Tells for Terminal as TerminalTells {
+    fn telling(&self) -> Telling<'_> {
+        self.device.telling()
     }
 }
