@@ -2,3 +2,4 @@ pub mod State
 pub mod Rules
 pub mod Laws
 pub mod Told
+pub mod Sent

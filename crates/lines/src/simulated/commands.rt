@@ -4,7 +4,7 @@ ghost use Prim.Native.Nat.{ℕ, _+_, _<_, _≤_, min};
 ghost use lib.Dec.{eqb, leb};
 ghost use lib.ListN.{getD};
 ghost use Rattle.std.specs.Of.Vec.{vec-len, vec-items};
-ghost use Rattle.tca.specs.Fields.{cusyn, unit-half, response-places};
+ghost use Rattle.tca.specs.Fields.{cusyn, unit-half, data-area, response-places};
 ghost use Rattle.std.specs.Vec.{made};
 ghost use Rattle.line.specs.State.{at};
 ghost use Rattle.line.specs.Told.{told};
@@ -16,6 +16,12 @@ use line::command::PollAnswer;
 use line::telling::Telling;
 use std::alloc::AllocError;
 use std::alloc::Global;
+use tca::field::CUDP;
+use tca::field::CUSYN;
+use tca::field::DPASTAT;
+use tca::field::DPSSTAT;
+use tca::field::EXFAK;
+use tca::request::REQUEST_PLACES;
 
 impl SimulatedDevice {
     pub fn switch_on(heap: Global, size: u16) -> Result<SimulatedDevice, AllocError>
@@ -57,6 +63,14 @@ impl SimulatedDevice {
         ensures { λ r. ⌜ r ≡ vec-len (now (self .entry) .memory) ⌝ }
     {
         self.memory.len() as u16
+    }
+
+    // A byte of the control area.
+    fn byte(&self, address: u16) -> u8
+        requires { ⌜ address < data-area ⌝ }
+        ensures { λ r. ⌜ r ≡ at (device-of (now (self .entry))) address ⌝ }
+    {
+        self.memory[address as usize]
     }
 
     fn miss(&mut self)
@@ -111,13 +125,16 @@ impl SimulatedDevice {
         }
     }
 
-    // Whether the device's program finds what a Poll then says.
+    // What an answered Poll says.
     pub fn says(&self) -> PollAnswer
         ensures { λ r. ⌜ r ≡ says (device-of (now (self .entry))) ⌝ }
     {
         if self.waiting {
             PollAnswer::Reset
-        } else if self.memory[0] == 0 && self.memory[1] == 0 && self.memory[0x26] == 0 {
+        } else if self.byte(DPASTAT.address) == 0
+            && self.byte(DPSSTAT.address) == 0
+            && self.byte(EXFAK.address) == 0
+        {
             PollAnswer::Clean
         } else {
             PollAnswer::Status
@@ -149,7 +166,7 @@ impl SimulatedDevice {
     fn sees_request(&self) -> bool
         ensures { λ r. ⌜ r ≡ (not (now (self .entry) .waiting) && not (eqb (at (device-of (now (self .entry))) cusyn) (now (self .entry) .seen))) ⌝ }
     {
-        !self.waiting && self.memory[0x45] != self.seen
+        !self.waiting && self.byte(CUSYN.address) != self.seen
     }
 
     // The request that stands in memory is taken.
@@ -157,20 +174,19 @@ impl SimulatedDevice {
         requires { ⌜ now self .waiting ≡ false ⌝ }
         ensures { λ _. ⌜ state-of (now (self .exit)) ≡ record { device = took (device-of (now (self .entry))); row = now (self .entry) .row } ⌝ }
     {
-        let m = &self.memory;
+        let [function, p1, p2, p3, p4, terminal, high, low] = REQUEST_PLACES;
         let request = [
-            m[0x44],
-            m[0x46],
-            m[0x47],
-            m[0x48],
-            m[0x49],
-            m[0x42],
-            m[0x40],
-            m[0x41],
+            self.byte(function),
+            self.byte(p1),
+            self.byte(p2),
+            self.byte(p3),
+            self.byte(p4),
+            self.byte(terminal),
+            self.byte(high),
+            self.byte(low),
         ];
-        let cusyn = m[0x45];
         self.last = request;
-        self.seen = cusyn;
+        self.seen = self.byte(CUSYN.address);
         self.taken = self.taken.wrapping_add(1);
         self.working = true;
     }
@@ -196,10 +212,17 @@ impl SimulatedDevice {
 fn hears_write(address: u16, value: u8) -> bool
     ensures { λ r. ⌜ r ≡ (leb unit-half address || ((is-toggle address && eqb value 0) || is-in response-places address)) ⌝ }
 {
-    match address {
-        0x00 | 0x01 | 0x26 => value == 0,
-        _ => address >= 0x40,
+    if is_toggle(address) {
+        value == 0
+    } else {
+        address >= CUDP.address
     }
+}
+
+fn is_toggle(address: u16) -> bool
+    ensures { λ r. ⌜ r ≡ is-toggle address ⌝ }
+{
+    address == DPASTAT.address || address == DPSSTAT.address || address == EXFAK.address
 }
 
 fn zero(memory: &mut Vec<u8>)
