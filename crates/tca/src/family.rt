@@ -19,8 +19,7 @@ ghost use Rattle.tca.specs.Families.{synchronous-in, event-in, expedited-in};
 ghost use Rattle.tca.specs.Fields.{dpsstat, dpastat, exfak, synchronous-places, event-places, expedited-places, data-area};
 ghost use Rattle.tca.specs.Records.{synchronous-bytes, event-bytes, expedited-bytes};
 
-// A clause cannot cite an associated constant, so each is a ghost member too, and a small function ties
-// the two.
+// A clause cannot cite a constant, so a ghost member says what it is, and a small function ties the two.
 pub trait Family {
     type Record: Copy;
 
@@ -37,12 +36,15 @@ pub trait Family {
     // the record that some bytes are: none where there are too few or too many
     ghost of: { List ℕ → Option Self·Record };
 
+    // a record has a byte for each place
     law long: { (r : Self·Record) → length (bytes r) ≡ length places };
 
+    // nothing is lost between a record and its bytes, either way
     law back: { (r : Self·Record) → of (bytes r) ≡ Some r };
 
     law whole: { (bs : List ℕ) (r : Self·Record) → of bs ≡ Some r → bytes r ≡ bs };
 
+    // all of it stands before the data area, and the toggle apart from the record
     law within: { (k : ℕ) → k < length places → getD places k 0 < data-area };
 
     law toggled: { toggle < data-area };

@@ -10,43 +10,54 @@ pub enum Half {
     Unit,
 }
 
-#[derive(Clone, Copy, PartialEq, Eq, Debug)]
+#[derive(Clone, Copy)]
 pub enum Name {
+    // the toggle that says that an event is there
     Dpastat,
+    // the toggle that says that a synchronous status is there
     Dpsstat,
+    // the synchronous status: its value and its parameters
     Dssv,
     Dssp,
     Dssp2,
     Dssp3,
+    // the event: its logical terminal, its value and its parameters
     Daltad,
     Daev,
     Daep,
     Daep2,
     Daep3,
     Daep4,
+    // the expedited status: its logical terminal and its value
     Exflt,
     Exfrq,
+    // the toggle that says that an expedited status is there
     Exfak,
+    // the request: where its data begins, its logical terminal and its function code
     Cudp,
     Cultad,
     Cufrv,
+    // the toggle that tells a new request from one sent again
     Cusyn,
+    // the request's parameters
     Cufrp1,
     Cufrp2,
     Cufrp3,
     Cufrp4,
+    // the addresses of the logical terminals
     Culta1,
     Culta2,
     Culta3,
     Culta4,
     Culta5,
+    // the expedited status's data
     Exfd1,
     Exfd2,
     Exfd3,
     Exfd4,
 }
 
-#[derive(Clone, Copy, PartialEq, Eq, Debug)]
+#[derive(Clone, Copy)]
 pub struct Field {
     pub name: Name,
     pub address: u16,
@@ -254,7 +265,7 @@ pub const EXFD1: Field = Field {
     name: Name::Exfd1,
     address: 0x5c,
     length: 1,
-    half: Half::Unit,
+    half: Half::Unit, // though the device fills it in
 };
 
 pub const EXFD2: Field = Field {
@@ -278,7 +289,7 @@ pub const EXFD4: Field = Field {
     half: Half::Unit,
 };
 
-// Every field once, in the order of the addresses' owners.
+// Every field once, in the order of the addresses.
 pub const FIELDS: [Field; 32] = [
     DPASTAT,
     DPSSTAT,

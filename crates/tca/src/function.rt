@@ -6,18 +6,31 @@ ghost use Rattle.tca.specs.Codes.{code-of, code-byte, needs-online, report-lis
 
 #[derive(Clone, Copy, PartialEq, Eq, Debug)]
 pub enum FunctionCode {
+    // no operation
     Cnop = 0x01,
+    // write the control unit's status
     Wcus = 0x02,
+    // write data from the host
     Wdat = 0x03,
+    // write data of the data base
     Wdbd = 0x04,
+    // read data for a local copy
     Rdcopy = 0x05,
+    // write a local channel command
     Wlcc = 0x06,
+    // the host selects the device
     Lock = 0x07,
+    // generate inbound data for the host
     Rdat = 0x08,
+    // write a printer's characteristics for a local copy
     Wctl = 0x09,
+    // prepare inbound data before the host is notified
     Pdat = 0x0a,
+    // end a chained command sequence
     Ctccs = 0x0b,
+    // request data of the data base
     Rdbd = 0x0c,
+    // read a printer's identification
     Rpid = 0x0d,
 }
 
@@ -57,15 +70,15 @@ impl FunctionCode {
     pub fn needs_online_terminal(self) -> bool
         ensures { λ r. ⌜ r ≡ needs-online self ⌝ }
     {
-        match self {
+        matches!(
+            self,
             FunctionCode::Wdat
-            | FunctionCode::Wlcc
-            | FunctionCode::Lock
-            | FunctionCode::Rdat
-            | FunctionCode::Pdat
-            | FunctionCode::Ctccs => true,
-            _ => false,
-        }
+                | FunctionCode::Wlcc
+                | FunctionCode::Lock
+                | FunctionCode::Rdat
+                | FunctionCode::Pdat
+                | FunctionCode::Ctccs
+        )
     }
 }
 
@@ -73,18 +86,9 @@ impl FunctionCode {
 pub fn is_status_report(parameter: u8) -> bool
     ensures { λ r. ⌜ r ≡ report-listed parameter ⌝ }
 {
-    match parameter {
-        0x01..=0x03
-        | 0x10
-        | 0x20
-        | 0x30
-        | 0x31
-        | 0x40..=0x42
-        | 0x51..=0x5c
-        | 0x60
-        | 0x61
-        | 0x70
-        | 0x71 => true,
-        _ => false,
-    }
+    matches!(
+        parameter,
+        0x01..=0x03 | 0x10 | 0x20 | 0x30 | 0x31 | 0x40..=0x42
+            | 0x51..=0x5c | 0x60 | 0x61 | 0x70 | 0x71
+    )
 }

@@ -12,6 +12,7 @@ use crate::field::CULTA3;
 use crate::field::CULTA4;
 use crate::field::CULTA5;
 use crate::field::CULTAD;
+use crate::function::FunctionCode;
 ghost use mathlib.Core.Path.{_≡_};
 ghost use Rattle.tca.specs.Fields.{request-places, terminal-places};
 ghost use Rattle.tca.specs.Records.{request-of, request-bytes, cu-ready};
@@ -29,6 +30,12 @@ pub struct Request {
     // where the data begins
     pub data: u16,
 }
+
+// The address that is no logical terminal.
+pub const NO_TERMINAL: u8 = 0xff;
+
+// The first parameter of the status report that the control unit is ready.
+const UNIT_READY: u8 = 0x10;
 
 // Where each byte of a request stands, in record order.
 pub const REQUEST_PLACES: [u16; 8] = [
@@ -98,17 +105,17 @@ impl Request {
         ]
     }
 
-    // The status report by which the control unit says that it is ready, for no logical terminal.
+    // The status report that the control unit is ready.
     pub fn cu_ready() -> Request
         ensures { λ r. ⌜ r ≡ cu-ready ⌝ }
     {
         Request {
-            function: 0x02,
-            p1: 0x10,
+            function: FunctionCode::Wcus.byte(),
+            p1: UNIT_READY,
             p2: 0,
             p3: 0,
             p4: 0,
-            terminal: 0xff,
+            terminal: NO_TERMINAL,
             data: 0,
         }
     }
