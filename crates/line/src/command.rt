@@ -1,7 +1,7 @@
 // What goes down a coax, and what comes back.
 
 // A command of the coax. How many bytes a Write carries is said here and by its effect alone.
-#[derive(Clone, Copy, PartialEq, Eq, Debug)]
+#[derive(Clone, Copy, PartialEq, Eq)]
 pub enum Command {
     Poll,
     Read(u16),
@@ -13,7 +13,7 @@ pub enum Command {
 }
 
 // What an answered Poll says: a restart waits, else a toggle is set, else neither.
-#[derive(Clone, Copy, PartialEq, Eq, Debug)]
+#[derive(Clone, Copy, PartialEq, Eq)]
 pub enum PollAnswer {
     Reset,
     Status,
@@ -21,7 +21,7 @@ pub enum PollAnswer {
 }
 
 // The answer to a command: to a Read its byte, to a Poll what it says, to any other that it was done.
-#[derive(Clone, Copy, PartialEq, Eq, Debug)]
+#[derive(Clone, Copy, PartialEq, Eq)]
 pub enum Reply {
     Done,
     Byte(u8),

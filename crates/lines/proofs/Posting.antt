@@ -13,8 +13,8 @@ use Rattle.tca.specs.Fields.{dpastat, dpsstat, exfak, event-places, synchronous
 use Rattle.line.specs.State.{Device, Choice, answered, at}
 use Rattle.line.specs.Rules.{is-in, act, counted, posts-event, posts-end, posts-expedited}
 use Rattle.line.proofs.Acts.{Leaves, left}
-use Rattle.lines.specs.Posts.{posted, put-row}
-use Rattle.lines.proofs.Rows.{row-length, row-other, row-read, read-row, read-same, distinct, all-below, apart, beyond}
+use Rattle.simulated.specs.Posts.{posted, put-row}
+use Rattle.simulated.proofs.Rows.{row-length, row-other, row-read, read-row, read-same, distinct, all-below, apart, beyond}
 
 -- one status, posted or not
 

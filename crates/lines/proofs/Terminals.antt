@@ -18,8 +18,8 @@ use Rattle.line.specs.declared.command.Reply.the-variants.{Polled}
 use Rattle.line.specs.State.{Device, State, at}
 use Rattle.line.specs.Rules.{Permitted, act, posts-event, posts-end, posts-expedited, says}
 use Rattle.lines.specs.declared.terminal.Terminal.{Terminal}
-use Rattle.lines.specs.Posts.{free, with-event, with-end}
-use Rattle.lines.specs.Simulated.{obliging, device-of, state-of}
+use Rattle.simulated.specs.Posts.{free, with-event, with-end}
+use Rattle.simulated.specs.Simulated.{obliging, device-of, state-of}
 use Rattle.lines.specs.Terminal.{Own, own, Steps, post-event, post-end, polled}
 use Rattle.lines.proofs.Posting.{post-if, if-other, choice, after-posts, acts}
 

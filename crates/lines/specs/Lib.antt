@@ -1,5 +1,2 @@
-pub mod New
-pub mod Simulated
-pub mod Posts
 pub mod Terminal
 pub mod Promises

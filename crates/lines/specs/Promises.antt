@@ -16,8 +16,8 @@ use Rattle.line.specs.declared.command.Reply.{Reply}
 use Rattle.line.specs.State.{Device, at}
 use Rattle.line.specs.Rules.{hears, bytes-at}
 use Rattle.lines.specs.declared.terminal.Terminal.{Terminal}
-use Rattle.lines.specs.Posts.{free}
-use Rattle.lines.specs.Simulated.{device-of}
+use Rattle.simulated.specs.Posts.{free}
+use Rattle.simulated.specs.Simulated.{device-of}
 use Rattle.lines.specs.Terminal.{Steps}
 
 abbrev pub seen-from : Terminal → Device

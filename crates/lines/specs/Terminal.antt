@@ -14,8 +14,8 @@ use Rattle.line.specs.declared.command.Reply.the-variants.{Polled}
 use Rattle.line.specs.State.{Device, State}
 use Rattle.line.specs.Rules.{after, answer, says}
 use Rattle.lines.specs.declared.terminal.Terminal.{Terminal}
-use Rattle.lines.specs.Simulated.{state-of, obliging}
-use Rattle.lines.specs.Posts.{free, with-event, with-end}
+use Rattle.simulated.specs.Simulated.{state-of, obliging}
+use Rattle.simulated.specs.Posts.{free, with-event, with-end}
 
 -- what the line tells, and the event and the end that it was told and has not posted
 pub record Own : Type 0 where

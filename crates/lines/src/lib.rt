@@ -1,6 +1,4 @@
-// The lines that are supplied: devices in memory, behind a coax that loses nothing.
-pub mod promises;
-mod simulated;
-mod terminal;
+// The lines that are supplied.
 
-pub use terminal::Terminal;
+pub mod promises;
+pub mod terminal;

@@ -1,7 +1,9 @@
 // The terminal line: 256 bytes, a device that answers whatever it may, and posts what it is told.
-mod line;
+mod commands;
 
-use crate::simulated::SimulatedDevice;
+pub use commands::TerminalLine;
+pub use commands::TerminalTells;
+use simulated::device::SimulatedDevice;
 use tca::status::Event;
 use tca::status::SynchronousStatus;
 

@@ -1,7 +1,8 @@
 -- The records of the control area: each as its fields, and as the list of its bytes in record order.
+use mathlib.Core.Path.{_≡_}
 use mathlib.Core.List.{List, [], _∷_}
-use Prim.Native.Nat.{ℕ, _+_, _*_, _/_, _%_}
-use lib.ListN.{getD}
+use Prim.Native.Nat.{ℕ, _+_, _*_, _/_, _%_, _<_}
+use lib.ListN.{length, getD}
 use Rattle.tca.specs.declared.request.Request.{Request}
 use Rattle.tca.specs.declared.status.SynchronousStatus.{SynchronousStatus}
 use Rattle.tca.specs.declared.status.Event.{Event}
@@ -22,6 +23,9 @@ request-of bs = record {
 abbrev pub request-bytes : Request → List ℕ
 request-bytes r =
     r .function ∷ r .p1 ∷ r .p2 ∷ r .p3 ∷ r .p4 ∷ r .terminal ∷ r .«data» / 256 ∷ r .«data» % 256 ∷ []
+
+abbrev pub Request-bytes-come-back : Type 0
+Request-bytes-come-back = (bs : List ℕ) → length bs ≡ 8 → ((k : ℕ) → getD bs k 0 < 256) → request-bytes (request-of bs) ≡ bs
 
 -- the status report by which a control unit says that it is ready
 abbrev pub cu-ready : Request

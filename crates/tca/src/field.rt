@@ -3,8 +3,13 @@
 ghost use mathlib.Core.Path.{_≡_};
 ghost use Rattle.tca.specs.Table.{table, Sound};
 
+// Where the control unit's half begins, and the data area after it.
+pub const UNIT_HALF: u16 = 0x40;
+
+pub const DATA_AREA: u16 = 0x80;
+
 // Who owns a field: the device X'00' to X'3F', the control unit X'40' to X'7F'.
-#[derive(Clone, Copy, PartialEq, Eq, Debug)]
+#[derive(Clone, Copy)]
 pub enum Half {
     Device,
     Unit,

@@ -1,9 +1,6 @@
-// The Terminal Control Area: its fields, records, codes and numbers.
+// The Terminal Control Area: its fields, and the records that stand in it.
 
-pub mod attachment;
 pub mod family;
 pub mod field;
-pub mod function;
-pub mod number;
 pub mod request;
 pub mod status;

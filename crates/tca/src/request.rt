@@ -12,12 +12,12 @@ use crate::field::CULTA3;
 use crate::field::CULTA4;
 use crate::field::CULTA5;
 use crate::field::CULTAD;
-use crate::function::FunctionCode;
+use codes::function::FunctionCode;
 ghost use mathlib.Core.Path.{_≡_};
 ghost use Rattle.tca.specs.Fields.{request-places, terminal-places};
-ghost use Rattle.tca.specs.Records.{request-of, request-bytes, cu-ready};
+ghost use Rattle.tca.specs.Records.{request-of, request-bytes, cu-ready, Request-bytes-come-back};
 
-#[derive(Clone, Copy, PartialEq, Eq, Debug)]
+#[derive(Clone, Copy)]
 pub struct Request {
     // the function code
     pub function: u8,
@@ -72,8 +72,7 @@ pub fn terminal_places() -> [u16; 5]
 
 impl Request {
     pub fn from_bytes(bytes: [u8; 8]) -> Request
-        ensures value { λ r. ⌜ r ≡ request-of bytes ⌝ }
-        ensures back { λ r. ⌜ request-bytes r ≡ bytes ⌝ }
+        ensures { λ r. ⌜ r ≡ request-of bytes ⌝ }
     {
         let [function, p1, p2, p3, p4, terminal, high, low] = bytes;
         let data = u16::from_be_bytes([high, low]);
@@ -120,3 +119,8 @@ impl Request {
         }
     }
 }
+
+// Any eight bytes, read as a request and written again, are the same eight.
+pub fn request_bytes_come_back()
+    ensures { λ _. ⌜ Request-bytes-come-back ⌝ }
+{}

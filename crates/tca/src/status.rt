@@ -19,7 +19,7 @@ use crate::field::EXFRQ;
 ghost use mathlib.Core.Path.{_≡_};
 ghost use Rattle.tca.specs.Records.{synchronous-of, synchronous-bytes, event-of, event-bytes, expedited-of, expedited-bytes};
 
-#[derive(Clone, Copy, PartialEq, Eq, Debug)]
+#[derive(Clone, Copy)]
 pub struct SynchronousStatus {
     pub dssv: u8,
     pub dssp: u8,
@@ -32,8 +32,7 @@ pub const SYNCHRONOUS_PLACES: [u16; 4] = [DSSV.address, DSSP.address, DSSP2.addr
 
 impl SynchronousStatus {
     pub fn from_bytes(bytes: [u8; 4]) -> SynchronousStatus
-        ensures value { λ r. ⌜ r ≡ synchronous-of bytes ⌝ }
-        ensures back { λ r. ⌜ synchronous-bytes r ≡ bytes ⌝ }
+        ensures { λ r. ⌜ r ≡ synchronous-of bytes ⌝ }
     {
         let [dssv, dssp, dssp2, dssp3] = bytes;
         SynchronousStatus {
@@ -52,7 +51,7 @@ impl SynchronousStatus {
     }
 }
 
-#[derive(Clone, Copy, PartialEq, Eq, Debug)]
+#[derive(Clone, Copy)]
 pub struct Event {
     pub daev: u8,
     pub daep: u8,
@@ -74,8 +73,7 @@ pub const EVENT_PLACES: [u16; 6] = [
 
 impl Event {
     pub fn from_bytes(bytes: [u8; 6]) -> Event
-        ensures value { λ r. ⌜ r ≡ event-of bytes ⌝ }
-        ensures back { λ r. ⌜ event-bytes r ≡ bytes ⌝ }
+        ensures { λ r. ⌜ r ≡ event-of bytes ⌝ }
     {
         let [daev, daep, daep2, daep3, daep4, daltad] = bytes;
         Event {
@@ -103,7 +101,7 @@ impl Event {
     }
 }
 
-#[derive(Clone, Copy, PartialEq, Eq, Debug)]
+#[derive(Clone, Copy)]
 pub struct ExpeditedStatus {
     pub exfrq: u8,
     pub exflt: u8,
@@ -125,8 +123,7 @@ pub const EXPEDITED_PLACES: [u16; 6] = [
 
 impl ExpeditedStatus {
     pub fn from_bytes(bytes: [u8; 6]) -> ExpeditedStatus
-        ensures value { λ r. ⌜ r ≡ expedited-of bytes ⌝ }
-        ensures back { λ r. ⌜ expedited-bytes r ≡ bytes ⌝ }
+        ensures { λ r. ⌜ r ≡ expedited-of bytes ⌝ }
     {
         let [exfrq, exflt, exfd1, exfd2, exfd3, exfd4] = bytes;
         ExpeditedStatus {

@@ -1,0 +1,7 @@
+// What a control unit is made for: the host's attachment.
+#[derive(Clone, Copy)]
+pub enum Attachment {
+    Bsc,
+    LocalChannel,
+    Sna,
+}

@@ -1,0 +1,4 @@
+// A device in memory, behind a coax that loses nothing: what every supplied line is built on.
+
+pub mod device;
+pub mod size;
