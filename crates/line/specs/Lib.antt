@@ -3,3 +3,4 @@ pub mod Rules
 pub mod Laws
 pub mod Told
 pub mod Sent
+pub mod Answers

@@ -2,6 +2,7 @@ ghost use mathlib.Core.Path.{_≡_};
 ghost use Prim.Native.Nat.{ℕ};
 ghost use lib.ListN.{length};
 ghost use Rattle.std.specs.declared.option.Option.{Option};
+ghost use Rattle.line.specs.Answers.{again};
 ghost use Rattle.line.specs.State.{State};
 ghost use Rattle.line.specs.Rules.{Permitted, Lawful, polled, byte, done};
 ghost use Rattle.line.specs.declared.command.Command.{Command};
@@ -9,12 +10,15 @@ ghost use Rattle.line.specs.declared.command.Command.the-variants.{Poll, Read,
 ghost use Rattle.line.specs.declared.command.Reply.{Reply};
 
 pub mod command;
+pub mod determined;
 pub mod laws;
+pub mod reply;
 pub mod telling;
 
 use command::Command;
 use command::PollAnswer;
 use command::Reply;
+use reply::from_done;
 
 // A coax with one device. Each method sends its command once; `None` or `false` says that no answer came.
 // `state` is what the line tells. `step` is what one sending did to the line itself: code that is generic
@@ -55,15 +59,10 @@ pub trait Line {
         ensures { λ r. ⌜ step (now (self .entry)) Reset (done r) (now (self .exit)) ⌝ };
 }
 
-fn done_or_none(answered: bool) -> Option<Reply>
-    ensures { λ r. ⌜ r ≡ done answered ⌝ }
-{
-    if answered { Some(Reply::Done) } else { None }
-}
-
 // One sending of one command.
 pub fn issue<L: Line>(line: &mut L, command: Command) -> Option<Reply>
-    ensures { λ r. ⌜ step (now (line .entry)) command r (now (line .exit)) ⌝ }
+    ensures went { λ r. ⌜ step (now (line .entry)) command r (now (line .exit)) ⌝ }
+    ensures kind { λ r. ⌜ again command r ≡ r ⌝ }
 {
     match command {
         Command::Poll => match line.poll() {
@@ -74,10 +73,10 @@ pub fn issue<L: Line>(line: &mut L, command: Command) -> Option<Reply>
             Some(value) => Some(Reply::Byte(value)),
             None => None,
         },
-        Command::Write(address, value) => done_or_none(line.write(address, value)),
-        Command::Start => done_or_none(line.start()),
-        Command::Acknowledge => done_or_none(line.acknowledge()),
-        Command::TerminalId => done_or_none(line.terminal_id()),
-        Command::Reset => done_or_none(line.reset()),
+        Command::Write(address, value) => from_done(line.write(address, value)),
+        Command::Start => from_done(line.start()),
+        Command::Acknowledge => from_done(line.acknowledge()),
+        Command::TerminalId => from_done(line.terminal_id()),
+        Command::Reset => from_done(line.reset()),
     }
 }

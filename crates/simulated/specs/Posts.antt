@@ -4,10 +4,11 @@ use mathlib.Core.Bool.{Bool, false, not, _&&_}
 use Prim.Native.Nat.{ℕ, _+_, _%_, _^_}
 use lib.Dec.{eqb}
 use lib.ListN.{getD, set}
-use Rattle.tca.specs.Fields.{dpastat, dpsstat, event-places, synchronous-places}
-use Rattle.tca.specs.Records.{event-bytes, synchronous-bytes}
+use Rattle.tca.specs.Fields.{dpastat, dpsstat, exfak, event-places, synchronous-places, expedited-places}
+use Rattle.tca.specs.Records.{event-bytes, synchronous-bytes, expedited-bytes}
 use Rattle.tca.specs.declared.status.Event.{Event}
 use Rattle.tca.specs.declared.status.SynchronousStatus.{SynchronousStatus}
+use Rattle.tca.specs.declared.status.ExpeditedStatus.{ExpeditedStatus}
 use Rattle.line.specs.State.{Device, at}
 
 -- memory with bytes put at the addresses of a row, in its order
@@ -47,3 +48,15 @@ with-end e d = record {
   events = d .events;
   expedited = d .expedited;
 }
+
+abbrev pub with-expedited : ExpeditedStatus → Device → Device
+with-expedited e d = record {
+    memory = posted exfak expedited-places (expedited-bytes e) (d .memory);
+    waiting = d .waiting;
+    working = d .working;
+    seen = d .seen;
+    last = d .last;
+    taken = d .taken;
+    events = d .events;
+    expedited = (d .expedited + 1) % 2 ^ 32;
+  }

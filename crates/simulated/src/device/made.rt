@@ -59,4 +59,18 @@ impl SimulatedDevice {
     {
         self.memory.len() as u16
     }
+
+    pub fn is_working(&self) -> bool
+        ensures { λ r. ⌜ r ≡ device-of (now (self .entry)) .working ⌝ }
+    {
+        self.working
+    }
+
+    // The second parameter of the request taken last.
+    pub fn second_parameter(&self) -> u8
+        ensures { λ r. ⌜ r ≡ getD (device-of (now (self .entry)) .last) 2 0 ⌝ }
+    {
+        let [_, _, second, _, _, _, _, _] = self.last;
+        second
+    }
 }

@@ -3,14 +3,16 @@ ghost use mathlib.Core.Bool.{cond, _&&_};
 ghost use Prim.Native.Nat.{_≤_};
 ghost use lib.ListN.{set};
 ghost use Rattle.std.specs.Of.Vec.{vec-len, vec-items};
-ghost use Rattle.tca.specs.Fields.{dpastat, dpsstat, data-area};
-ghost use Rattle.simulated.specs.Posts.{put-row, posted, free, with-event, with-end};
+ghost use Rattle.tca.specs.Fields.{dpastat, dpsstat, exfak, data-area};
+ghost use Rattle.simulated.specs.Posts.{put-row, posted, free, with-event, with-end, with-expedited};
 ghost use Rattle.simulated.specs.Simulated.{state-of, device-of};
 use crate::device::SimulatedDevice;
 use tca::family::AsynchronousFamily;
+use tca::family::ExpeditedFamily;
 use tca::family::Family;
 use tca::family::SynchronousFamily;
 use tca::status::Event;
+use tca::status::ExpeditedStatus;
 use tca::status::SynchronousStatus;
 
 // The record of a status, put at its places.
@@ -62,6 +64,20 @@ impl SimulatedDevice {
         if self.is_free::<SynchronousFamily>() && self.working {
             post::<SynchronousFamily>(&mut self.memory, end);
             self.working = false;
+            true
+        } else {
+            false
+        }
+    }
+
+    // The same of an expedited status, at any device whose restart does not wait.
+    pub fn post_expedited(&mut self, status: ExpeditedStatus) -> bool
+        ensures after { λ _. ⌜ state-of (now (self .exit)) ≡ record { device = cond (free exfak (device-of (now (self .entry)))) (with-expedited status (device-of (now (self .entry)))) (device-of (now (self .entry))); row = now (self .entry) .row } ⌝ }
+        ensures value { λ r. ⌜ r ≡ free exfak (device-of (now (self .entry))) ⌝ }
+    {
+        if self.is_free::<ExpeditedFamily>() {
+            post::<ExpeditedFamily>(&mut self.memory, status);
+            self.expedited = self.expedited.wrapping_add(1);
             true
         } else {
             false
