@@ -1,3 +1,4 @@
 pub mod Posting
 pub mod Terminals
 pub mod Kept
+pub mod Printers

@@ -16,6 +16,12 @@ use Rattle.line.proofs.Acts.{Leaves, left}
 use Rattle.simulated.specs.Posts.{posted, put-row}
 use Rattle.simulated.proofs.Rows.{row-length, row-other, row-read, read-row, read-same, distinct, all-below, apart, beyond}
 
+-- a value of zero posts nothing
+pub never : (r z : Bool) → (r && (z && false)) ≡ false
+never true true = refl
+never true false = refl
+never false z = refl
+
 -- one status, posted or not
 
 abbrev pub post-if : Bool → ℕ → List ℕ → List ℕ → List ℕ → List ℕ

@@ -21,7 +21,7 @@ use Rattle.lines.specs.declared.terminal.Terminal.{Terminal}
 use Rattle.simulated.specs.Posts.{free, with-event, with-end}
 use Rattle.simulated.specs.Simulated.{obliging, device-of, state-of}
 use Rattle.lines.specs.Terminal.{Own, own, Steps, post-event, post-end, polled}
-use Rattle.lines.proofs.Posting.{post-if, if-other, choice, after-posts, acts}
+use Rattle.lines.proofs.Posting.{post-if, if-other, choice, after-posts, acts, never}
 
 -- whether it posts, and the bytes
 
@@ -94,11 +94,6 @@ still-due None b bs d = refl
 still-due (Some e) b bs d = rw (if-other b dpastat event-places bs (d .memory) dpsstat refl) refl
 
 -- its choice posts just what is due
-
-never : (r z : Bool) → (r && (z && false)) ≡ false
-never true true = refl
-never true false = refl
-never false z = refl
 
 event-due : (r z : Bool) → (r && (z && not (eqb (cond (r && z) 1 0) 0))) ≡ (r && z)
 event-due true true = refl

@@ -1,2 +1,3 @@
 pub mod Terminal
 pub mod Promises
+pub mod Printer

@@ -1,6 +1,7 @@
 // The terminal line: 256 bytes, a device that answers whatever it may, and posts what it is told.
 mod commands;
 
+pub use commands::TerminalDetermined;
 pub use commands::TerminalLine;
 pub use commands::TerminalTells;
 use simulated::device::SimulatedDevice;

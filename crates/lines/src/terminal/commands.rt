@@ -7,10 +7,11 @@ ghost use Rattle.line.specs.State.{State};
 ghost use Rattle.line.specs.declared.command.Command.{Command};
 ghost use Rattle.line.specs.declared.command.Reply.{Reply};
 ghost use Rattle.simulated.specs.Simulated.{state-of, device-of, switched-on};
-ghost use Rattle.lines.specs.Terminal.{Own, own, polled, post-event, held-event, post-end, held-end, Steps};
+ghost use Rattle.lines.specs.Terminal.{Own, own, polled, post-event, held-event, post-end, held-end, next, answers, Steps};
 use crate::terminal::Terminal;
 use line::Line;
 use line::command::PollAnswer;
+use line::determined::Determined;
 use line::telling::Telling;
 use line::telling::Tells;
 use simulated::device::SimulatedDevice;
@@ -119,4 +120,16 @@ pub impl Tells for Terminal as TerminalTells {
     fn telling(&self) -> Telling<'_> {
         self.device.telling()
     }
+}
+
+pub impl Determined for Terminal as TerminalDetermined {
+    ghost Own = { Own };
+
+    ghost own = { own };
+
+    ghost shows = { λ o. o .state };
+
+    ghost next = { next };
+
+    ghost answers = { answers };
 }
