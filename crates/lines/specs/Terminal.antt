@@ -26,6 +26,10 @@ pub record Own : Type 0 where
 abbrev pub own : Terminal → Own
 own s = record { state = state-of (s .device); event = s .event; end = s .end }
 
+-- nothing told
+abbrev pub untold : State → Own
+untold t = record { state = t; event = None; end = None }
+
 -- An event that it was told is posted if no restart waits and DPASTAT is zero, and is then no longer held.
 abbrev pub post-event : Option Event → Device → Device
 post-event None d = d

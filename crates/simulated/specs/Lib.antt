@@ -2,3 +2,4 @@ pub mod New
 pub mod Size
 pub mod Simulated
 pub mod Posts
+pub mod Snapshots

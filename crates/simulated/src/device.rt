@@ -8,6 +8,7 @@ ghost use Rattle.simulated.specs.New.{is-new};
 mod commands;
 mod made;
 mod posts;
+mod restored;
 
 // The device behind a supplied line, and the line's row. It answers whatever the rules let it answer; what
 // its own program does within a Poll is for the line that holds it.

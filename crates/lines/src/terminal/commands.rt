@@ -1,13 +1,15 @@
 ghost use mathlib.Core.Path.{_≡_};
 ghost use lib.ListN.{length};
 ghost use Rattle.std.specs.declared.option.Option.{Option};
-ghost use Rattle.std.specs.declared.option.Option.the-variants.{Some, None};
+ghost use Rattle.std.specs.declared.option.Option.the-variants.{Some};
+ghost use Rattle.std.specs.Options.{mapped};
 ghost use Rattle.std.specs.Vec.{made};
+ghost use Rattle.simulated.specs.Snapshots.{restored};
 ghost use Rattle.line.specs.State.{State};
 ghost use Rattle.line.specs.declared.command.Command.{Command};
 ghost use Rattle.line.specs.declared.command.Reply.{Reply};
 ghost use Rattle.simulated.specs.Simulated.{state-of, device-of, switched-on};
-ghost use Rattle.lines.specs.Terminal.{Own, own, polled, post-event, held-event, post-end, held-end, next, answers, Steps};
+ghost use Rattle.lines.specs.Terminal.{Own, own, untold, polled, post-event, held-event, post-end, held-end, next, answers, Steps};
 use crate::terminal::Terminal;
 use line::Line;
 use line::command::PollAnswer;
@@ -16,6 +18,7 @@ use line::telling::Telling;
 use line::telling::Tells;
 use simulated::device::SimulatedDevice;
 use simulated::size::MemorySize;
+use simulated::snapshot::Snapshot;
 use std::alloc::AllocError;
 use std::alloc::Global;
 use tca::status::Event;
@@ -24,13 +27,27 @@ use tca::status::SynchronousStatus;
 impl Terminal {
     // A terminal as it is switched on, with nothing told.
     pub fn new(heap: Global) -> Result<Terminal, AllocError>
-        ensures { λ r. ⌜ made r (λ s. own s ≡ record { state = switched-on 256; event = None; end = None }) ⌝ }
+        ensures { λ r. ⌜ made r (λ s. own s ≡ untold (switched-on 256)) ⌝ }
     {
         Ok(Terminal {
             device: SimulatedDevice::switch_on(heap, MemorySize::Terminal)?,
             event: None,
             end: None,
         })
+    }
+
+    // A line that behaves as the terminal does and begins in a given state, if a line may be in it.
+    pub fn in_state(snapshot: Snapshot) -> Option<Terminal>
+        ensures { λ r. ⌜ mapped own r ≡ mapped untold (restored snapshot) ⌝ }
+    {
+        match SimulatedDevice::in_state(snapshot) {
+            Some(device) => Some(Terminal {
+                device,
+                event: None,
+                end: None,
+            }),
+            None => None,
+        }
     }
 
     // The event that stands next to be posted.
