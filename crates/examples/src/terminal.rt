@@ -1,9 +1,11 @@
 use line::Line;
 use line::command::PollAnswer;
 use line::command::PollAnswerPartialEq;
+use line::tellable::Tellable;
 use line::telling::Tells;
 use lines::terminal::Terminal;
 use lines::terminal::TerminalLine;
+use lines::terminal::TerminalTellable;
 use lines::terminal::TerminalTells;
 use std::test::*;
 use tca::field::CUSYN;

@@ -13,6 +13,7 @@ pub mod command;
 pub mod determined;
 pub mod laws;
 pub mod reply;
+pub mod tellable;
 pub mod telling;
 
 use command::Command;

@@ -50,7 +50,7 @@ still-free true e d = rw (if-other true dpsstat synchronous-places (synchronous-
 still-free false e d = refl
 
 both : (b r : Bool) (e : SynchronousStatus) (s : ExpeditedStatus) (d : Device) (big : 256 ≤ length (d .memory))
-  → cond r (with-expedited s (cond b (with-end e d) d)) (cond b (with-end e d) d) ≡ after-posts d false b r [] (synchronous-bytes e) (expedited-bytes s) big
+    → cond r (with-expedited s (cond b (with-end e d) d)) (cond b (with-end e d) d) ≡ after-posts d false b r [] (synchronous-bytes e) (expedited-bytes s) big
 both true true e s d big = refl
 both true false e s d big = refl
 both false true e s d big = refl
@@ -71,17 +71,18 @@ module _ (o : Own) (big : 256 ≤ length (o .state .device .memory)) where
 
   acted : act (choice d false (ends-now o) (reports-now o) [] S X) d ≡ polled o .state .device
   acted =
-    acts d false (ends-now o) (reports-now o) [] S X big
+      acts d false (ends-now o) (reports-now o) [] S X big
       (never (not (d .waiting)) (eqb (at d dpastat) 0))
       (end-due (over o) (not (d .waiting)) (d .working) (eqb (at d dpsstat) 0))
       (rw reports (report-due (due-now o) (not (d .waiting)) (eqb (at d exfak) 0)))
-    ∙ sym (both (ends-now o) (reports-now o) (o .end) (o .status) d big)
+      ∙ sym (both (ends-now o) (reports-now o) (o .end) (o .status) d big)
 
   poll-permitted : (u : State) (r : Option Reply) → u ≡ polled o .state → r ≡ Some (Polled (says (polled o .state .device))) → Permitted (o .state) Poll r u
-  poll-permitted u r e q =
-    (choice d false (ends-now o) (reports-now o) [] S X,
-     e ∙ ap (λ (x : Device). record { device = x; row = 0 }) (sym acted),
-     q ∙ ap (λ (x : Device). Some (Polled (says x))) (sym acted))
+  poll-permitted u r e q = (
+    choice d false (ends-now o) (reports-now o) [] S X,
+    e ∙ ap (λ (x : Device). record { device = x; row = 0 }) (sym acted),
+    q ∙ ap (λ (x : Device). Some (Polled (says x))) (sym acted),
+  )
 
 pub keeps : (s t : Printer) (c : Command) (r : Option Reply) → Steps s c r t → Permitted (state-of (s .device)) c r (state-of (t .device))
 keeps s t Poll r (e, q) = poll-permitted (own s) (rw (s .device .memory .ok .0) at (s .device .large)) (state-of (t .device)) r (ap (λ (o : Own). o .state) e) q

@@ -62,13 +62,13 @@ reports-now o = due-now o && free exfak (device-ended o)
 
 abbrev pub polled : Own → Own
 polled o = record {
-    state = record { device = cond (reports-now o) (with-expedited (o .status) (device-ended o)) (device-ended o); row = 0 };
-    left = left-after o;
-    ends = ends-after o;
-    due = cond (reports-now o) false (due-now o);
-    end = o .end;
-    status = o .status;
-  }
+  state = record { device = cond (reports-now o) (with-expedited (o .status) (device-ended o)) (device-ended o); row = 0 };
+  left = left-after o;
+  ends = ends-after o;
+  due = cond (reports-now o) false (due-now o);
+  end = o .end;
+  status = o .status;
+}
 
 -- the polls to come are the second parameter of the request that a Start makes the device take
 abbrev pub left-at-start : Own → ℕ

@@ -30,6 +30,13 @@ own s = record { state = state-of (s .device); event = s .event; end = s .end }
 abbrev pub untold : State → Own
 untold t = record { state = t; event = None; end = None }
 
+-- told an event or an end: the last one counts
+abbrev pub with-told-event : Event → Own → Own
+with-told-event e o = record { state = o .state; event = Some e; end = o .end }
+
+abbrev pub with-told-end : SynchronousStatus → Own → Own
+with-told-end e o = record { state = o .state; event = o .event; end = Some e }
+
 -- An event that it was told is posted if no restart waits and DPASTAT is zero, and is then no longer held.
 abbrev pub post-event : Option Event → Device → Device
 post-event None d = d

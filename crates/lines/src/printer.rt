@@ -5,7 +5,6 @@ mod commands;
 pub use commands::PrinterDetermined;
 pub use commands::PrinterLine;
 pub use commands::PrinterTells;
-
 use simulated::device::SimulatedDevice;
 use tca::status::ExpeditedStatus;
 use tca::status::SynchronousStatus;

@@ -3,6 +3,7 @@ mod commands;
 
 pub use commands::TerminalDetermined;
 pub use commands::TerminalLine;
+pub use commands::TerminalTellable;
 pub use commands::TerminalTells;
 use simulated::device::SimulatedDevice;
 use tca::status::Event;

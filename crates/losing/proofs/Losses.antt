@@ -16,10 +16,15 @@ use Rattle.losing.specs.Loss.{Lost, Loses, row-by, told-over, mark-at, turned,
 
 pub lawful-over : (t : State) (n : ℕ) → n ≤ 255 → Lawful t → Lawful (told-over t n)
 lawful-over t n h l = record {
-    large = l .large; small = l .small; eight = l .eight;
-    taken-fits = l .taken-fits; events-fit = l .events-fit; expedited-fit = l .expedited-fit;
-    row-held = h; new = l .new;
-  }
+  large = l .large;
+  small = l .small;
+  eight = l .eight;
+  taken-fits = l .taken-fits;
+  events-fit = l .events-fit;
+  expedited-fit = l .expedited-fit;
+  row-held = h;
+  new = l .new;
+}
 
 -- the same choice, with the answer lost
 muted-by : Passage → Passage
@@ -81,32 +86,34 @@ either-unheard false = refl
 module _ (t : State) (n : ℕ) (c : Command) where
   passes : (u : State) (r : Option Reply) → Permitted t c r u → Permitted (told-over t n) c r (told-over u (row-by r n))
   passes u r p =
-    let ch = p .0 in
-    let f = fate c ch (t .device) in
-    let d = ap (λ (s : State). s .device) (p .1) in
-    let w = ap (λ (q : Option Reply). row-by q n) (p .2) ∙ row-is f (reply c (effect c ch (t .device))) n in
-    (ch, state-eq (u .device) (device-after f c ch (t .device)) (row-by r n) (row-after f n) d w, p .2)
+      let ch = p .0 in
+      let f = fate c ch (t .device) in
+      let d = ap (λ (s : State). s .device) (p .1) in
+      let w = ap (λ (q : Option Reply). row-by q n) (p .2) ∙ row-is f (reply c (effect c ch (t .device))) n in
+      (ch, state-eq (u .device) (device-after f c ch (t .device)) (row-by r n) (row-after f n) d w, p .2)
 
   swallowed : Choice → Permitted (told-over t n) c None (told-over t (min 255 (n + 1)))
   unfolding with-passage
   swallowed any =
-    let h = hears c (t .device) in
-    (with-passage unheard any,
-     state-eq (t .device) (device-after (cond h unheard unheard) c (with-passage unheard any) (t .device)) _ (row-after (cond h unheard unheard) n) (rw (either-unheard h) refl) (rw (either-unheard h) refl),
-     rw (either-unheard h) refl)
+      let h = hears c (t .device) in (
+        with-passage unheard any,
+        state-eq (t .device) (device-after (cond h unheard unheard) c (with-passage unheard any) (t .device)) _ (row-after (cond h unheard unheard) n) (rw (either-unheard h) refl) (rw (either-unheard h) refl),
+        rw (either-unheard h) refl,
+      )
 
   muted : (u : State) (q : Option Reply) → Permitted t c q u → Permitted (told-over t n) c None (told-over u (min 255 (n + 1)))
   unfolding with-passage
   muted u q p =
-    let ch = p .0 in
-    let h = hears c (t .device) in
-    let f = fate c ch (t .device) in
-    let m = with-passage (muted-by (ch .passage)) ch in
-    let e = mute-fate h (ch .passage) in
-    let d = ap (λ (s : State). s .device) (p .1) in
-    (m,
-     state-eq (u .device) (device-after (fate c m (t .device)) c m (t .device)) _ (row-after (fate c m (t .device)) n) (d ∙ rw e (sym (muted-device f c (muted-by (ch .passage)) ch (t .device)))) (rw e (sym (muted-row f n))),
-     rw e (sym (muted-answer f _)))
+      let ch = p .0 in
+      let h = hears c (t .device) in
+      let f = fate c ch (t .device) in
+      let m = with-passage (muted-by (ch .passage)) ch in
+      let e = mute-fate h (ch .passage) in
+      let d = ap (λ (s : State). s .device) (p .1) in (
+        m,
+        state-eq (u .device) (device-after (fate c m (t .device)) c m (t .device)) _ (row-after (fate c m (t .device)) n) (d ∙ rw e (sym (muted-device f c (muted-by (ch .passage)) ch (t .device)))) (rw e (sym (muted-row f n))),
+        rw e (sym (muted-answer f _)),
+      )
 
 silent : Choice
 silent = record { passage = unheard; restarts = false; to-dpastat = 0; to-dpsstat = 0; to-exfak = 0; bytes = [] }
@@ -118,11 +125,11 @@ module _ {S : Type 0} (step : S → Command → Option Reply → S → Type 0) (
   lost-permitted Unanswered n s t c r (q, w, e) = rw e (muted (state s) n c (state t) q (keeps s t c q w))
 
   pub keeps-over : (marks : List Mark) (next row : ℕ) (s : S) (c : Command) (r : Option Reply) (t : S) (marks′ : List Mark) (next′ row′ : ℕ)
-    → Loses step marks next row s c r t marks′ next′ row′ → Permitted (told-over (state s) row) c r (told-over (state t) row′)
+      → Loses step marks next row s c r t marks′ next′ row′ → Permitted (told-over (state s) row) c r (told-over (state t) row′)
   keeps-over marks next row s c r t marks′ next′ row′ l = rw (l .row-counts) (lost-permitted (mark-at marks next) row s t c r (l .below))
 
 module _ {S O : Type 0} (step : S → Command → Option Reply → S → Type 0) (own : S → O) (next-of : Command → O → O) (answers : Command → O → Option Reply)
-  (determined : (s t : S) (c : Command) (r : Option Reply) → step s c r t → (own t ≡ next-of c (own s)) × (r ≡ answers c (own s))) where
+    (determined : (s t : S) (c : Command) (r : Option Reply) → step s c r t → (own t ≡ next-of c (own s)) × (r ≡ answers c (own s))) where
   lost-determined : (m : Mark) (s t : S) (c : Command) (r : Option Reply) → Lost step m s c r t → (own t ≡ below-after m next-of c (own s)) × (r ≡ answer-through m answers c (own s))
   lost-determined Passes s t c r w = determined s t c r w
   lost-determined Unheard s t c r (e, q) = (ap own e, q)
@@ -132,8 +139,8 @@ module _ {S O : Type 0} (step : S → Command → Option Reply → S → Type 0)
   over s marks next row = record { below = own s; marks = marks; next = next; row = row }
 
   pub determined-over : (marks : List Mark) (next row : ℕ) (s : S) (c : Command) (r : Option Reply) (t : S) (marks′ : List Mark) (next′ row′ : ℕ)
-    → Loses step marks next row s c r t marks′ next′ row′
-    → (over t marks′ next′ row′ ≡ next-over next-of answers c (over s marks next row)) × (r ≡ answers-over answers c (over s marks next row))
+      → Loses step marks next row s c r t marks′ next′ row′
+      → (over t marks′ next′ row′ ≡ next-over next-of answers c (over s marks next row)) × (r ≡ answers-over answers c (over s marks next row))
   determined-over marks next row s c r t marks′ next′ row′ l =
-    let d = lost-determined (mark-at marks next) s t c r (l .below) in
-    (rw (d .0, l .marks-stay, l .next-turns, l .row-counts, d .1) refl, d .1)
+      let d = lost-determined (mark-at marks next) s t c r (l .below) in
+      (rw (d .0, l .marks-stay, l .next-turns, l .row-counts, d .1) refl, d .1)

@@ -62,11 +62,11 @@ answers-over answers c o = answer-through (mark-at (o .marks) (o .next)) answers
 
 abbrev pub next-over : {O : Type 0} → (Command → O → O) → (Command → O → Option Reply) → Command → OwnOver O → OwnOver O
 next-over next answers c o = record {
-    below = below-after (mark-at (o .marks) (o .next)) next c (o .below);
-    marks = o .marks;
-    next = turned (o .next);
-    row = row-by (answers-over answers c o) (o .row);
-  }
+  below = below-after (mark-at (o .marks) (o .next)) next c (o .below);
+  marks = o .marks;
+  next = turned (o .next);
+  row = row-by (answers-over answers c o) (o .row);
+}
 
 abbrev pub shows-over : {O : Type 0} → (O → State) → OwnOver O → State
 shows-over shows o = told-over (shows (o .below)) (o .row)

@@ -5,9 +5,10 @@ use crate::mark::Mark;
 
 mod commands;
 
-
-
-
+pub use commands::LosingDetermined;
+pub use commands::LosingLine;
+pub use commands::LosingTellable;
+pub use commands::LosingTells;
 
 // Stands over any line, by value. The marks are used in rotation, one for each command; the row is its own,
 // since what it swallows never reaches the line below.

@@ -51,12 +51,12 @@ with-end e d = record {
 
 abbrev pub with-expedited : ExpeditedStatus → Device → Device
 with-expedited e d = record {
-    memory = posted exfak expedited-places (expedited-bytes e) (d .memory);
-    waiting = d .waiting;
-    working = d .working;
-    seen = d .seen;
-    last = d .last;
-    taken = d .taken;
-    events = d .events;
-    expedited = (d .expedited + 1) % 2 ^ 32;
-  }
+  memory = posted exfak expedited-places (expedited-bytes e) (d .memory);
+  waiting = d .waiting;
+  working = d .working;
+  seen = d .seen;
+  last = d .last;
+  taken = d .taken;
+  events = d .events;
+  expedited = (d .expedited + 1) % 2 ^ 32;
+}

@@ -10,18 +10,18 @@ use Rattle.simulated.specs.declared.snapshot.Snapshot.{Snapshot}
 
 abbrev pub snapshot-state : Snapshot → State
 snapshot-state s = record {
-    device = record {
-        memory = vec-items (s .memory);
-        waiting = s .waiting;
-        working = s .working;
-        seen = s .seen;
-        last = s .last;
-        taken = s .taken;
-        events = s .events;
-        expedited = s .expedited;
-      };
-    row = s .row;
-  }
+  device = record {
+    memory = vec-items (s .memory);
+    waiting = s .waiting;
+    working = s .working;
+    seen = s .seen;
+    last = s .last;
+    taken = s .taken;
+    events = s .events;
+    expedited = s .expedited;
+  };
+  row = s .row;
+}
 
 -- 256 to 32,768 bytes; and a device whose restart waits is new
 abbrev pub is-lawful : Snapshot → Bool

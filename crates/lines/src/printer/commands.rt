@@ -26,7 +26,11 @@ use tca::status::SynchronousStatus;
 
 impl Printer {
     // A printer as it is switched on, with the records by which it ends requests and reports itself.
-    pub fn new(heap: Global, end: SynchronousStatus, status: ExpeditedStatus) -> Result<Printer, AllocError>
+    pub fn new(
+        heap: Global,
+        end: SynchronousStatus,
+        status: ExpeditedStatus,
+    ) -> Result<Printer, AllocError>
         ensures { λ r. ⌜ made r (λ s. own s ≡ record { state = switched-on 4096; left = 0; ends = 0; due = false; end = end; status = status }) ⌝ }
     {
         Ok(Printer {

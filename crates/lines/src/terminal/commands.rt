@@ -9,11 +9,12 @@ ghost use Rattle.line.specs.State.{State};
 ghost use Rattle.line.specs.declared.command.Command.{Command};
 ghost use Rattle.line.specs.declared.command.Reply.{Reply};
 ghost use Rattle.simulated.specs.Simulated.{state-of, device-of, switched-on};
-ghost use Rattle.lines.specs.Terminal.{Own, own, untold, polled, post-event, held-event, post-end, held-end, next, answers, Steps};
+ghost use Rattle.lines.specs.Terminal.{Own, own, untold, with-told-event, with-told-end, polled, post-event, held-event, post-end, held-end, next, answers, Steps};
 use crate::terminal::Terminal;
 use line::Line;
 use line::command::PollAnswer;
 use line::determined::Determined;
+use line::tellable::Tellable;
 use line::telling::Telling;
 use line::telling::Tells;
 use simulated::device::SimulatedDevice;
@@ -48,20 +49,6 @@ impl Terminal {
             }),
             None => None,
         }
-    }
-
-    // The event that stands next to be posted.
-    pub fn tell_event(&mut self, event: Event)
-        ensures { λ _. ⌜ own (now (self .exit)) ≡ record { state = state-of (now (self .entry) .device); event = Some event; end = now (self .entry) .end } ⌝ }
-    {
-        self.event = Some(event);
-    }
-
-    // The status by which the next end of a request is posted.
-    pub fn tell_end(&mut self, end: SynchronousStatus)
-        ensures { λ _. ⌜ own (now (self .exit)) ≡ record { state = state-of (now (self .entry) .device); event = now (self .entry) .event; end = Some end } ⌝ }
-    {
-        self.end = Some(end);
     }
 
     fn post_event(&mut self)
@@ -130,6 +117,20 @@ pub impl Line for Terminal as TerminalLine {
 
     fn reset(&mut self) -> bool {
         self.device.reset()
+    }
+}
+
+pub impl Tellable for Terminal as TerminalTellable {
+    ghost eventful = { λ s e t. own t ≡ with-told-event e (own s) };
+
+    ghost ending = { λ s e t. own t ≡ with-told-end e (own s) };
+
+    fn tell_event(&mut self, event: Event) {
+        self.event = Some(event);
+    }
+
+    fn tell_end(&mut self, end: SynchronousStatus) {
+        self.end = Some(end);
     }
 }
 

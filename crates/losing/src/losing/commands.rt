@@ -18,8 +18,11 @@ use line::issue;
 use line::reply::to_byte;
 use line::reply::to_done;
 use line::reply::to_poll_answer;
+use line::tellable::Tellable;
 use line::telling::Telling;
 use line::telling::Tells;
+use tca::status::Event;
+use tca::status::SynchronousStatus;
 
 // One sending under a mark.
 fn lose<L: Line>(below: &mut L, mark: Mark, command: Command) -> Option<Reply>
@@ -111,10 +114,27 @@ pub impl<L: Line> Line for Losing<L> as LosingLine {
     }
 }
 
+pub impl<L: Tellable> Tellable for Losing<L> as LosingTellable {
+    ghost eventful = { λ s e t. L·Tellable .eventful (s .below) e (t .below) × (t .marks ≡ s .marks) × (t .next ≡ s .next) × (t .row ≡ s .row) };
+
+    ghost ending = { λ s e t. L·Tellable .ending (s .below) e (t .below) × (t .marks ≡ s .marks) × (t .next ≡ s .next) × (t .row ≡ s .row) };
+
+    fn tell_event(&mut self, event: Event) {
+        self.below.tell_event(event);
+    }
+
+    fn tell_end(&mut self, end: SynchronousStatus) {
+        self.below.tell_end(end);
+    }
+}
+
 pub impl<L: Tells> Tells for Losing<L> as LosingTells {
     fn telling(&self) -> Telling<'_> {
         let below = self.below.telling();
-        Telling { row: self.row, ..below }
+        Telling {
+            row: self.row,
+            ..below
+        }
     }
 }
 

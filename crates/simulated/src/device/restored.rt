@@ -37,7 +37,9 @@ impl Snapshot {
     fn is_lawful(&self) -> bool
         ensures { λ r. ⌜ r ≡ is-lawful (now (self .entry)) ⌝ }
     {
-        256 <= self.memory.len() && self.memory.len() <= 32768 && (!self.waiting || self.looks_new())
+        256 <= self.memory.len()
+            && self.memory.len() <= 32768
+            && (!self.waiting || self.looks_new())
     }
 }
 
