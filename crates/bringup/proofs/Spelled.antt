@@ -73,7 +73,7 @@ same-count log x y e = rw e (length-append (vec-items (log .finished)) (y ∷ []
 
 -- a new run begins
 pub noted-anew : {E : Type 0} (result : Result (Unit {0}) E) (log after : Log) (c : Command) (r : Option Reply)
-  → Cases result (λ _. (vec-items (after .finished) ≡ runs-of log) × (after .current ≡ Some (once c r))) (λ _. runs-of after ≡ runs-of log)
-  → Cases result (λ _. sendings after ≡ sendings log ++ (c, r) ∷ []) (λ _. sendings after ≡ sendings log)
+    → Cases result (λ _. (vec-items (after .finished) ≡ runs-of log) × (after .current ≡ Some (once c r))) (λ _. runs-of after ≡ runs-of log)
+    → Cases result (λ _. sendings after ≡ sendings log ++ (c, r) ∷ []) (λ _. sendings after ≡ sendings log)
 noted-anew (Ok _) log after c r e = rw (e .0, e .1) (begins (runs-of log) c r)
 noted-anew (Err _) log after c r e = ap spell-all e

@@ -1,6 +1,7 @@
 -- What a call sent down its line, and how its log grew.
 use mathlib.Core.Bool.{Bool, true, false, _&&_, _||_}
 use mathlib.Core.List.{List, [], _∷_, _++_, map}
+use mathlib.Core.Logic.{_⊎_}
 use mathlib.Core.Path.{_≡_}
 use Prim.Native.Nat.{ℕ, _<_}
 use lib.ListN.{length, getD, take}
@@ -20,6 +21,12 @@ pub record Went {S : Type 0} (step : S → Command → Option Reply → S → Ty
   pub sent : Sent step s zs t
   pub noted : after ≡ before ++ zs
   pub such : P zs
+
+-- Memory ran out: all that was sent is noted but perhaps the last.
+pub record Broke {S : Type 0} (step : S → Command → Option Reply → S → Type 0) (s : S) (before : List Sending) (t : S) (after : List Sending) : Type 0 where
+  pub m : S
+  pub went : Went step s before m after (λ _. Unit {0})
+  pub last : (m ≡ t) ⊎ ((c : Command) × (q : Option Reply) × step m c q t)
 
 abbrev pub commands-of : List Sending → List Command
 commands-of zs = map (λ z. z .0) zs

@@ -5,10 +5,9 @@ ghost use mathlib.Core.Path.{_≡_};
 ghost use Prim.Native.Nat.{ℕ};
 ghost use Rattle.std.specs.declared.option.Option.{Option};
 ghost use Rattle.std.specs.Results.{Cases};
-ghost use Rattle.std.specs.Vec.{made};
 ghost use Rattle.line.specs.declared.command.Reply.{Reply};
 ghost use Rattle.bringup.specs.Runs.{sendings};
-ghost use Rattle.bringup.specs.Went.{Went, Ran, Polled-until, Gathered, says-status, byte-of};
+ghost use Rattle.bringup.specs.Went.{Went, Broke, Ran, Polled-until, Gathered, says-status, byte-of};
 use crate::log::Log;
 use line::Line;
 use line::command::Command;
@@ -22,10 +21,14 @@ use tca::family::Family;
 pub const MOST_POLLS: u8 = 32;
 
 // One sending, noted. Without memory it went down the line all the same, and is not noted.
-pub fn send<L: Line>(line: &mut L, log: &mut Log, command: Command) -> Result<Option<Reply>, AllocError>
+pub fn send<L: Line>(
+    line: &mut L,
+    log: &mut Log,
+    command: Command,
+) -> Result<Option<Reply>, AllocError>
     ensures { λ r. ⌜ Cases r
-      (λ q. step (now (line .entry)) command q (now (line .exit)) × (sendings (now (log .exit)) ≡ sendings (now (log .entry)) ++ (command, q) ∷ []))
-      (λ _. (q : Option Reply) × step (now (line .entry)) command q (now (line .exit)) × (sendings (now (log .exit)) ≡ sendings (now (log .entry)))) ⌝ }
+        (λ q. step (now (line .entry)) command q (now (line .exit)) × (sendings (now (log .exit)) ≡ sendings (now (log .entry)) ++ (command, q) ∷ []))
+        (λ _. (q : Option Reply) × step (now (line .entry)) command q (now (line .exit)) × (sendings (now (log .exit)) ≡ sendings (now (log .entry)))) ⌝ }
 {
     let reply = line::issue(line, command);
     log.note(command, reply)?;
@@ -34,7 +37,9 @@ pub fn send<L: Line>(line: &mut L, log: &mut Log, command: Command) -> Result<Op
 
 // Sends the commands in order, each once, up to the first that is not answered: whether all were.
 pub fn run<L: Line>(line: &mut L, log: &mut Log, commands: &[Command]) -> Result<bool, AllocError>
-    ensures { λ r. ⌜ made r (λ b. Went step (now (line .entry)) (sendings (now (log .entry))) (now (line .exit)) (sendings (now (log .exit))) (Ran (now (commands .entry)) b)) ⌝ }
+    ensures { λ r. ⌜ Cases r
+        (λ b. Went step (now (line .entry)) (sendings (now (log .entry))) (now (line .exit)) (sendings (now (log .exit))) (Ran (now (commands .entry)) b))
+        (λ _. Broke step (now (line .entry)) (sendings (now (log .entry))) (now (line .exit)) (sendings (now (log .exit)))) ⌝ }
 {
     for command in commands {
         if send(line, log, *command)?.is_none() {
@@ -42,4 +47,55 @@ pub fn run<L: Line>(line: &mut L, log: &mut Log, commands: &[Command]) -> Result
         }
     }
     Ok(true)
+}
+
+fn is_status(reply: Option<Reply>) -> bool
+    ensures { λ r. ⌜ r ≡ says-status reply ⌝ }
+{
+    matches!(reply, Some(Reply::Polled(PollAnswer::Status)))
+}
+
+// Polls until an answer says status, or as often as it may: whether one did.
+pub fn poll_for_status<L: Line>(line: &mut L, log: &mut Log) -> Result<bool, AllocError>
+    ensures { λ r. ⌜ Cases r
+        (λ b. Went step (now (line .entry)) (sendings (now (log .entry))) (now (line .exit)) (sendings (now (log .exit))) (Polled-until 32 b))
+        (λ _. Broke step (now (line .entry)) (sendings (now (log .entry))) (now (line .exit)) (sendings (now (log .exit)))) ⌝ }
+{
+    for _ in 0..MOST_POLLS {
+        if is_status(send(line, log, Command::Poll)?) {
+            return Ok(true);
+        }
+    }
+    Ok(false)
+}
+
+fn byte_in(reply: Option<Reply>) -> Option<u8>
+    ensures { λ r. ⌜ r ≡ byte-of reply ⌝ }
+{
+    match reply {
+        Some(Reply::Byte(byte)) => Some(byte),
+        _ => None,
+    }
+}
+
+// Reads the places of a family's record in order, up to the first that gives no byte: the record, if all
+// gave one.
+pub fn read_record<F: Family, L: Line>(
+    heap: Global,
+    line: &mut L,
+    log: &mut Log,
+) -> Result<Option<F::Record>, AllocError>
+    ensures { λ r. ⌜ Cases r
+        (λ got. Went (L·Line .step) (now (line .entry)) (sendings (now (log .entry))) (now (line .exit)) (sendings (now (log .exit))) (Gathered (F·Family .places) (F·Family .of) got))
+        (λ _. Broke (L·Line .step) (now (line .entry)) (sendings (now (log .entry))) (now (line .exit)) (sendings (now (log .exit)))) ⌝ }
+{
+    let mut bytes = Vec::new(heap);
+    for place in F::places() {
+        let reply = send(line, log, Command::Read(*place))?;
+        let Some(byte) = byte_in(reply) else {
+            return Ok(None);
+        };
+        bytes.push(byte)?;
+    }
+    Ok(F::from_slice(&bytes))
 }
