@@ -1,2 +1,3 @@
 pub mod Spelled
 pub mod Wents
+pub mod Rows

@@ -25,10 +25,7 @@ writes (p ∷ ps) (b ∷ bs) = Write p b ∷ writes ps bs
 
 -- The restart is acknowledged, the unit's half cleared, the logical terminals named and the first function
 -- asked for: its bytes, a clear DPSSTAT, the new CUSYN, and the start.
-unfoldable pub opening-commands : List ℕ → List Command
+abbrev pub opening-commands : List ℕ → List Command
 opening-commands terminals =
-    (Poll ∷ Acknowledge ∷ [])
-    ++ (unit-half-zeros
-    ++ (writes terminal-places terminals
-    ++ (writes request-places (request-bytes cu-ready)
-    ++ (Write dpsstat 0 ∷ Write cusyn 1 ∷ Start ∷ []))))
+    (Poll ∷ Acknowledge ∷ []) ++ unit-half-zeros ++ writes terminal-places terminals ++ writes request-places (request-bytes cu-ready)
+    ++ (Write dpsstat 0 ∷ []) ++ (Write cusyn 1 ∷ []) ++ (Start ∷ [])
