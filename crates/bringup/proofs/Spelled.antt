@@ -2,12 +2,13 @@
 use mathlib.Core.Bool.{Bool, true, false, cond}
 use mathlib.Core.List.{List, [], _∷_, _++_, append-assoc, append-nil}
 use mathlib.Core.Path.{_≡_, refl, sym, ap, _∙_}
-use Prim.Native.Nat.{ℕ, _+_, _^_}
+use Prim.Native.Nat.{ℕ, zero, suc, _+_, _-_, _^_, _<_, min}
 use native.Mathlib.Nat.{add-zero}
 use native.Mathlib.Numerals.{add-one}
 use native.Mathlib.Omega.{arith}
 use lib.Dec.{ltb}
-use lib.ListN.{length, length-append}
+use lib.ListN.{length, getD, take, length-append}
+use Rattle.std.proofs.shelf.Lists.{take-more}
 use Rattle.std.specs.declared.option.Option.{Option}
 use Rattle.std.specs.declared.option.Option.the-variants.{Some, None}
 use Rattle.std.specs.declared.result.Result.{Result}
@@ -77,3 +78,18 @@ pub noted-anew : {E : Type 0} (result : Result (Unit {0}) E) (log after : Log) (
     → Cases result (λ _. sendings after ≡ sendings log ++ (c, r) ∷ []) (λ _. sendings after ≡ sendings log)
 noted-anew (Ok _) log after c r e = rw (e .0, e .1) (begins (runs-of log) c r)
 noted-anew (Err _) log after c r e = ap spell-all e
+
+-- counts
+spell-length : (c : Command) (r : Option Reply) (n : ℕ) → length (spell-times c r n) ≡ n
+spell-length c r zero = refl
+spell-length c r (suc n) = length-append (spell-times c r n) ((advance c n, r) ∷ []) ∙ ap (λ (k : ℕ). k + 1) (spell-length c r n) ∙ add-one n
+
+count-push : (xs : List Run) (x : Run) → length (spell-all (xs ++ x ∷ [])) ≡ length (spell-all xs) + x .times
+count-push xs x = ap length (spell-all-push xs x) ∙ length-append (spell-all xs) (spell x) ∙ ap (λ (n : ℕ). length (spell-all xs) + n) (spell-length (x .command) (x .reply) (x .times))
+
+count-more : (xs : List Run) (i : ℕ) (d : Run) → i < length xs → length (spell-all (take (i + 1) xs)) ≡ length (spell-all (take i xs)) + getD xs i d .times
+count-more xs i d h = ap (λ (ys : List Run). length (spell-all ys)) (take-more xs i d h) ∙ count-push (take i xs) (getD xs i d)
+
+pub counted-more : (xs : List Run) (i : ℕ) (d : Run) (sent times now-sent : ℕ) → i < length xs → sent ≡ min (2 ^ 64 - 1) (length (spell-all (take i xs))) → times ≡ getD xs i d .times → now-sent ≡ min (sent + times) (2 ^ 64 - 1)
+    → now-sent ≡ min (2 ^ 64 - 1) (length (spell-all (take (i + 1) xs)))
+counted-more xs i d sent times now-sent h before one after = omega (arith, count-more xs i d h)

@@ -34,6 +34,11 @@ module _ {S : Type 0} {step : S → Command → Option Reply → S → Type 0} w
     such = so (went .zs) (went .such);
   }
 
+  -- the same, where it is known whether an answer came
+  pub went-on : {P Q : List Sending → Type 0} {s m t : S} {before mid after : List Sending} {c : Command} {b came : Bool} → Went step s before m mid P
+      → (q : Option Reply) × step m c q t × (after ≡ mid ++ (c, q) ∷ []) × (isSome q ≡ b) → b ≡ came → ((q : Option Reply) → isSome q ≡ came → (zs : List Sending) → P zs → Q (zs ++ (c, q) ∷ [])) → Went step s before t after Q
+  went-on went one e so = went-more went (one .1, one .2) (so (one .0) (one .3 ∙ e))
+
   pub went-so : {P Q : List Sending → Type 0} {s t : S} {before after : List Sending} → Went step s before t after P → ((zs : List Sending) → P zs → Q zs) → Went step s before t after Q
   went-so went so = record { zs = went .zs; sent = went .sent; noted = went .noted; such = so (went .zs) (went .such) }
 
@@ -65,16 +70,16 @@ answered-push (z ∷ zs) c q e f = both (isSome (z .1)) (all-answered zs) (all-a
 abbrev pub Sofar : List Command → ℕ → List Sending → Type 0
 Sofar cs i zs = (commands-of zs ≡ take i cs) × (all-answered zs ≡ true)
 
-pub ran-more : (cs : List Command) (i : ℕ) (d : Command) (q : Option Reply) → i < length cs → isSome q ≡ true → (zs : List Sending) → Sofar cs i zs → Sofar cs (i + 1) (zs ++ (getD cs i d, q) ∷ [])
-ran-more cs i d q h some zs p =
+pub ran-more : (cs : List Command) (i : ℕ) (d : Command) → i < length cs → (q : Option Reply) → isSome q ≡ true → (zs : List Sending) → Sofar cs i zs → Sofar cs (i + 1) (zs ++ (getD cs i d, q) ∷ [])
+ran-more cs i d h q some zs p =
     (commands-push zs (getD cs i d) q ∙ ap (λ (xs : List Command). xs ++ getD cs i d ∷ []) (p .0) ∙ sym (take-more cs i d h), answered-push zs (getD cs i d) q (p .1) some)
 
 unanswered : (q : Option Reply) → isSome q ≡ false → q ≡ None
 unanswered None e = refl
 unanswered (Some r) e = let z : _≡_ {A = ℕ} 0 1 = cc in absurd (omega arith)
 
-pub ran-stops : (cs : List Command) (i : ℕ) (d : Command) (q : Option Reply) → i < length cs → isSome q ≡ false → (zs : List Sending) → Sofar cs i zs → Ran cs false (zs ++ (getD cs i d, q) ∷ [])
-ran-stops cs i d q h none-came zs p =
+pub ran-stops : (cs : List Command) (i : ℕ) (d : Command) → i < length cs → (q : Option Reply) → isSome q ≡ false → (zs : List Sending) → Sofar cs i zs → Ran cs false (zs ++ (getD cs i d, q) ∷ [])
+ran-stops cs i d h q none-came zs p =
     let c = getD cs i d in
     let e = unanswered q none-came in
     let long : length (zs ++ (c, q) ∷ []) ≡ i + 1 = length-push zs (c, q) ∙ ap (λ (n : ℕ). n + 1) (sym (length-map zs (λ z. z .0)) ∙ ap length (p .0) ∙ length-take-le i cs (omega arith)) in

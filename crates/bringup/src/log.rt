@@ -3,6 +3,7 @@ mod methods;
 
 use line::command::Command;
 use line::command::Reply;
+pub use methods::count;
 
 // Like sendings in a row: the n-th is the first command advanced by n, and each got the same reply. A
 // command advances by its address: a Read or Write goes on at the next one, any other stays as it is.

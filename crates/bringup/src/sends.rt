@@ -1,9 +1,8 @@
 // Sendings that are noted: one, a list of them, polls for a status and the reads of a record.
-ghost use mathlib.Core.Bool.{true, false};
 ghost use mathlib.Core.List.{[], _∷_, _++_};
 ghost use mathlib.Core.Path.{_≡_};
-ghost use Prim.Native.Nat.{ℕ};
 ghost use Rattle.std.specs.declared.option.Option.{Option};
+ghost use Rattle.std.specs.Options.{isSome};
 ghost use Rattle.std.specs.Results.{Cases};
 ghost use Rattle.line.specs.declared.command.Reply.{Reply};
 ghost use Rattle.bringup.specs.Runs.{sendings};
@@ -35,6 +34,14 @@ pub fn send<L: Line>(
     Ok(reply)
 }
 
+fn is_answered<L: Line>(line: &mut L, log: &mut Log, command: Command) -> Result<bool, AllocError>
+    ensures { λ r. ⌜ Cases r
+        (λ b. (q : Option Reply) × step (now (line .entry)) command q (now (line .exit)) × (sendings (now (log .exit)) ≡ sendings (now (log .entry)) ++ (command, q) ∷ []) × (isSome q ≡ b))
+        (λ _. (q : Option Reply) × step (now (line .entry)) command q (now (line .exit)) × (sendings (now (log .exit)) ≡ sendings (now (log .entry)))) ⌝ }
+{
+    Ok(send(line, log, command)?.is_some())
+}
+
 // Sends the commands in order, each once, up to the first that is not answered: whether all were.
 pub fn run<L: Line>(line: &mut L, log: &mut Log, commands: &[Command]) -> Result<bool, AllocError>
     ensures { λ r. ⌜ Cases r
@@ -42,7 +49,8 @@ pub fn run<L: Line>(line: &mut L, log: &mut Log, commands: &[Command]) -> Result
         (λ _. Broke step (now (line .entry)) (sendings (now (log .entry))) (now (line .exit)) (sendings (now (log .exit)))) ⌝ }
 {
     for command in commands {
-        if send(line, log, *command)?.is_none() {
+        let answered = is_answered(line, log, *command)?;
+        if !answered {
             return Ok(false);
         }
     }

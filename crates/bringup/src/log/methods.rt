@@ -1,7 +1,6 @@
-ghost use mathlib.Core.Bool.{true};
 ghost use mathlib.Core.List.{[], _∷_, _++_};
 ghost use mathlib.Core.Path.{_≡_};
-ghost use Prim.Native.Nat.{_+_, _^_, _<_};
+ghost use Prim.Native.Nat.{_+_, _-_, _^_, _<_, min};
 ghost use lib.ListN.{length};
 ghost use Rattle.std.specs.declared.option.Option.the-variants.{Some, None};
 ghost use Rattle.std.specs.declared.result.Result.the-variants.{Ok};
@@ -65,6 +64,17 @@ impl Run {
         let times = self.times + 1;
         Run { times, ..self }
     }
+}
+
+// How many sendings the runs stand for, held at the largest u64.
+pub fn count(runs: &[Run]) -> u64
+    ensures { λ r. ⌜ r ≡ min (2 ^ 64 - 1) (length (spell-all (now (runs .entry)))) ⌝ }
+{
+    let mut sent: u64 = 0;
+    for run in runs {
+        sent = sent.saturating_add(u64::from(run.times));
+    }
+    sent
 }
 
 impl Log {
