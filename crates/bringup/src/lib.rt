@@ -1,4 +1,3 @@
-// What brings a terminal up, and the log of what went down its line.
-pub mod log;
+// What brings a terminal up: sendings that are noted, and the commands of the opening.
 pub mod opening;
 pub mod sends;

@@ -4,7 +4,7 @@ use mathlib.Core.Path.{_≡_}
 use lib.ListN.{length}
 use Rattle.std.specs.declared.option.Option.{Option}
 use Rattle.line.specs.declared.command.Reply.{Reply}
-use Rattle.bringup.specs.Runs.{sendings}
+use Rattle.linelog.specs.Runs.{sendings}
 use Rattle.bringup.specs.Went.{Went, polls, any-status}
 use Rattle.bringup.proofs.sends.poll_for_status.Given as given
 

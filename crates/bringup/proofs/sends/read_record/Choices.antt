@@ -1,7 +1,7 @@
 use mathlib.Core.Path.{_≡_}
 use lib.ListN.{length}
 use Rattle.std.specs.Of.Vec.{vec-items}
-use Rattle.bringup.specs.Runs.{sendings}
+use Rattle.linelog.specs.Runs.{sendings}
 use Rattle.bringup.specs.Went.{Went, reads}
 use Rattle.bringup.proofs.sends.read_record.Given as given
 

@@ -1,7 +1,7 @@
 use mathlib.Core.Bool.{true}
 use mathlib.Core.Path.{_≡_}
 use lib.ListN.{take}
-use Rattle.bringup.specs.Runs.{sendings}
+use Rattle.linelog.specs.Runs.{sendings}
 use Rattle.bringup.specs.Went.{Went, commands-of, all-answered}
 use Rattle.bringup.proofs.sends.run.Given as given
 

@@ -1,8 +1,8 @@
 use mathlib.Core.Path.{_≡_}
 use Prim.Native.Nat.{_-_, _^_, min}
 use lib.ListN.{length, take}
-use Rattle.bringup.specs.Runs.{spell-all}
-use Rattle.bringup.proofs.log.methods.count.Given as given
+use Rattle.linelog.specs.Runs.{spell-all}
+use Rattle.linelog.proofs.methods.count.Given as given
 
 -- the sendings of the runs so far
 abbrev pub Inv-loop-run : given.InvT-loop-run

@@ -12,8 +12,8 @@ use Rattle.line.specs.Sent.{Sending}
 use Rattle.line.specs.declared.command.Command.{Command}
 use Rattle.line.specs.declared.command.Command.the-variants.{Poll, Read, Write, Start, Acknowledge, TerminalId, Reset}
 use Rattle.line.specs.declared.command.Reply.{Reply}
-use Rattle.bringup.specs.declared.log.Log.{Log}
-use Rattle.bringup.specs.declared.log.Run.{Run}
+use Rattle.linelog.specs.declared.Log.{Log}
+use Rattle.linelog.specs.declared.Run.{Run}
 
 -- A command advances by its address, if it has one.
 abbrev pub advance : Command → ℕ → Command

@@ -20,9 +20,9 @@ use Rattle.line.specs.Sent.{Sending}
 use Rattle.line.specs.declared.command.Command.{Command}
 use Rattle.line.specs.declared.command.Command.the-variants.{Poll, Read, Write, Start, Acknowledge, TerminalId, Reset}
 use Rattle.line.specs.declared.command.Reply.{Reply}
-use Rattle.bringup.specs.declared.log.Log.{Log}
-use Rattle.bringup.specs.declared.log.Run.{Run}
-use Rattle.bringup.specs.Runs.{advance, further-on, next-from, next-of, spell, spell-times, spell-all, once, once-more, current-runs, runs-of, sendings, Continues}
+use Rattle.linelog.specs.declared.Log.{Log}
+use Rattle.linelog.specs.declared.Run.{Run}
+use Rattle.linelog.specs.Runs.{advance, further-on, next-from, next-of, spell, spell-times, spell-all, once, once-more, current-runs, runs-of, sendings, Continues}
 
 pub spell-all-++ : (xs ys : List Run) → spell-all (xs ++ ys) ≡ spell-all xs ++ spell-all ys
 spell-all-++ [] ys = refl

@@ -1,6 +1,6 @@
 use mathlib.Core.Path.{refl}
-use Rattle.bringup.proofs.Spelled.{noted-longer, same-count, noted-anew}
-use Rattle.bringup.proofs.log.Log.note.Needs as need
+use Rattle.linelog.proofs.Spelled.{noted-longer, same-count, noted-anew}
+use Rattle.linelog.proofs.Log.note.Needs as need
 
 pub returns-in-Some : need.returns-in-Some
 returns-in-Some c =

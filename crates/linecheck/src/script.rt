@@ -1,0 +1,42 @@
+// What the program is told on standard input, on two lines: five logical terminal addresses, and the status
+// by which the device ends its first request, both in upper-case hexadecimal.
+ghost use mathlib.Core.Path.{_≡_};
+use tca::number::Refusal;
+use tca::status::SynchronousStatus;
+
+// More than a script that can be read has.
+pub const MOST_BYTES: u64 = 64;
+
+// The digits of the addresses, the end of their line, and the digits of the status.
+const ADDRESSES: usize = 10;
+
+const STATUS: usize = 8;
+
+#[derive(Clone, Copy)]
+pub struct Script {
+    pub terminals: [u8; 5],
+    pub end: SynchronousStatus,
+}
+
+// The last line may go without its end.
+fn without_last_end(text: &[u8]) -> &[u8] {
+    match text {
+        [front @ .., b'\n'] => front,
+        whole => whole,
+    }
+}
+
+pub fn parse(text: &[u8]) -> Result<Script, Refusal> {
+    let lines = without_last_end(text);
+    if lines.len() != ADDRESSES + 1 + STATUS || lines[ADDRESSES] != b'\n' {
+        return Err(Refusal::Malformed);
+    }
+    let mut terminals = [0; 5];
+    hex::decode(&lines[0..ADDRESSES], &mut terminals)?;
+    let mut end = [0; 4];
+    hex::decode(&lines[ADDRESSES + 1..ADDRESSES + 1 + STATUS], &mut end)?;
+    Ok(Script {
+        terminals,
+        end: SynchronousStatus::from_bytes(end),
+    })
+}
