@@ -4,3 +4,5 @@ mod simulated;
 mod terminal;
 
 pub use terminal::Terminal;
+pub use terminal::TerminalLine;
+pub use terminal::TerminalTells;

@@ -2,6 +2,8 @@
 mod line;
 
 use crate::simulated::SimulatedDevice;
+pub use line::TerminalLine;
+pub use line::TerminalTells;
 use tca::status::Event;
 use tca::status::SynchronousStatus;
 
