@@ -1,11 +1,11 @@
 // The commands that take a device whose restart waits to its first request.
-ghost use mathlib.Core.List.{[], _∷_, _++_};
+ghost use mathlib.Core.List.{_++_};
 ghost use mathlib.Core.Path.{_≡_};
 ghost use Prim.Native.Nat.{_≤_};
 ghost use lib.ListN.{length};
 ghost use Rattle.std.specs.Of.Vec.{vec-items};
 ghost use Rattle.std.specs.Vec.{made};
-ghost use Rattle.bringup.specs.Opening.{zeros, writes, unit-half-zeros, opening-commands, toggle-reads};
+ghost use Rattle.bringup.specs.Opening.{writes, unit-half-zeros, opening-commands, toggle-reads};
 use line::command::Command;
 use std::alloc::AllocError;
 use std::alloc::Global;

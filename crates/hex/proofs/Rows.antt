@@ -1,7 +1,7 @@
 -- Which texts spell a row, and which row.
 use mathlib.Core.Bool.{Bool, true, false, _&&_}
 use mathlib.Core.List.{List, [], _∷_}
-use mathlib.Core.Path.{_≡_, refl, sym, _∙_, ap}
+use mathlib.Core.Path.{_≡_, refl, sym, _∙_}
 use Prim.Native.Nat.{ℕ, zero, suc, _+_, _*_, _<_}
 use native.Mathlib.Omega.{arith}
 use native.Mathlib.Numerals.{add-one}
@@ -76,7 +76,3 @@ row-filled (b ∷ bs) (h ∷ []) e f = let z : _≡_ {A = ℕ} 0 1 = cc in absur
 row-filled (b ∷ bs) (h ∷ l ∷ text) e f =
     joined (digit-value h) (digit-value l) (row-in (length bs) text) b bs e (f 0 (omega arith))
     (λ some. row-filled bs text some (λ k below. f (suc k) (omega arith) ∙ byte-further h l text k))
-
-pub none-of : {A : Type 0} (o : Option A) → isSome o ≡ false → o ≡ None
-none-of None e = refl
-none-of (Some x) e = let z : _≡_ {A = ℕ} 0 1 = cc in absurd (omega arith)

@@ -4,8 +4,9 @@ ghost use mathlib.Core.List.{[], _∷_};
 ghost use mathlib.Core.Path.{_≡_};
 ghost use Prim.Native.Nat.{_*_};
 ghost use lib.ListN.{length};
-ghost use Rattle.std.specs.declared.option.Option.the-variants.{Some};
-ghost use Rattle.std.specs.Options.{isSome, valueOr, okOr, mapped};
+ghost use Rattle.std.specs.declared.option.Option.the-variants.{Some, None};
+ghost use Rattle.std.specs.Options.{isSome};
+ghost use Rattle.std.specs.Results.{Cases};
 ghost use Rattle.tca.specs.declared.number.Refusal.the-variants.{Malformed};
 ghost use Rattle.hex.specs.Hex.{digit-value, value-or-zero, digit-of, spelled, row-in, all-digits};
 use tca::number::Refusal;
@@ -71,8 +72,9 @@ fn is_row(text: &[u8], count: usize) -> bool
 // Fills `bytes` from exactly two digits for each of its places, the high digit first. Any other text is
 // refused, and `bytes` then stays as it is.
 pub fn decode(text: &[u8], bytes: &mut [u8]) -> Result<(), Refusal>
-    ensures value { λ r. ⌜ r ≡ okOr (mapped (λ _. tt) (row-in (length (now (bytes .entry))) (now (text .entry)))) Malformed ⌝ }
-    ensures after { λ _. ⌜ now (bytes .exit) ≡ valueOr (row-in (length (now (bytes .entry))) (now (text .entry))) (now (bytes .entry)) ⌝ }
+    ensures { λ r. ⌜ Cases r
+        (λ _. row-in (length (now (bytes .entry))) (now (text .entry)) ≡ Some (now (bytes .exit)))
+        (λ e. (e ≡ Malformed) × (row-in (length (now (bytes .entry))) (now (text .entry)) ≡ None) × (now (bytes .exit) ≡ now (bytes .entry))) ⌝ }
 {
     if !is_row(text, bytes.len()) {
         return Err(Refusal::Malformed);

@@ -1,6 +1,11 @@
 // What the program is told on standard input, on two lines: five logical terminal addresses, and the status
 // by which the device ends its first request, both in upper-case hexadecimal.
+ghost use mathlib.Core.Bool.{true};
 ghost use mathlib.Core.Path.{_≡_};
+ghost use lib.ListN.{length};
+ghost use Rattle.std.specs.Options.{okOr};
+ghost use Rattle.tca.specs.declared.number.Refusal.the-variants.{Malformed};
+ghost use Rattle.linecheck.specs.Read.{without-end, laid-out, script-in};
 use tca::number::Refusal;
 use tca::status::SynchronousStatus;
 
@@ -19,16 +24,29 @@ pub struct Script {
 }
 
 // The last line may go without its end.
-fn without_last_end(text: &[u8]) -> &[u8] {
-    match text {
-        [front @ .., b'\n'] => front,
-        whole => whole,
+fn without_last_end(text: &[u8]) -> &[u8]
+    ensures { λ r. ⌜ now r ≡ without-end (now (text .entry)) ⌝ }
+{
+    let length = text.len();
+    if length > 0 && text[length - 1] == b'\n' {
+        &text[0..length - 1]
+    } else {
+        text
     }
 }
 
-pub fn parse(text: &[u8]) -> Result<Script, Refusal> {
+fn is_laid_out(lines: &[u8]) -> bool
+    ensures value { λ r. ⌜ r ≡ laid-out (now (lines .entry)) ⌝ }
+    ensures long { λ r. ⌜ (r ≡ true → length (now (lines .entry)) ≡ 19) ⌝ }
+{
+    lines.len() == ADDRESSES + 1 + STATUS && lines[ADDRESSES] == b'\n'
+}
+
+pub fn parse(text: &[u8]) -> Result<Script, Refusal>
+    ensures { λ r. ⌜ r ≡ okOr (script-in (without-end (now (text .entry)))) Malformed ⌝ }
+{
     let lines = without_last_end(text);
-    if lines.len() != ADDRESSES + 1 + STATUS || lines[ADDRESSES] != b'\n' {
+    if !is_laid_out(lines) {
         return Err(Refusal::Malformed);
     }
     let mut terminals = [0; 5];

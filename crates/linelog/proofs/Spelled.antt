@@ -22,7 +22,7 @@ use Rattle.line.specs.declared.command.Command.the-variants.{Poll, Read, Write,
 use Rattle.line.specs.declared.command.Reply.{Reply}
 use Rattle.linelog.specs.declared.Log.{Log}
 use Rattle.linelog.specs.declared.Run.{Run}
-use Rattle.linelog.specs.Runs.{advance, further-on, next-from, next-of, spell, spell-times, spell-all, once, once-more, current-runs, runs-of, sendings, Continues}
+use Rattle.linelog.specs.Runs.{advance, next-from, spell, spell-times, spell-all, once, once-more, runs-of, sendings, Continues}
 
 pub spell-all-++ : (xs ys : List Run) → spell-all (xs ++ ys) ≡ spell-all xs ++ spell-all ys
 spell-all-++ [] ys = refl

@@ -1,13 +1,10 @@
 use borrow.Author.Count.{below-more}
 use mathlib.Core.Logic.{_≢_}
-use mathlib.Core.Path.{_≡_, refl, sym, ap, _∙_}
+use mathlib.Core.Path.{sym}
 use Prim.Native.Nat.{_<_}
 use native.Mathlib.Omega.{arith}
 use lib.ListN.{length}
 use lib.Seq.{getD-set-same, getD-set-other}
-use Rattle.std.specs.Options.{isSome}
-use Rattle.std.specs.declared.option.Option.the-variants.{Some}
-use Rattle.hex.specs.Hex.{row-in}
 use Rattle.hex.proofs.Rows.{row-filled}
 use Rattle.hex.proofs.decode.Needs as need
 
@@ -19,9 +16,7 @@ loop-n-again c =
 
 pub returns : need.returns
 returns c =
-    let text = c .args .text .now in
     let same = c .loop-n .kept .bytes in
     let some = rw (← same) at (c .if-not-is-row .ensures tt .value) in
-    let filled = row-filled (c .loop-n .bytes) text (sym some) (λ k h. c .loop-n .inv k (omega arith)) in
-    let e = rw same at filled in
-    rw e (record { value = refl; after = refl })
+    let filled = row-filled (c .loop-n .bytes) (c .args .text .now) (sym some) (λ k h. c .loop-n .inv k (omega arith)) in
+    rw same at filled

@@ -1,6 +1,5 @@
 use mathlib.Core.List.{[]}
 use mathlib.Core.Path.{refl}
-use native.Mathlib.Omega.{arith}
 use Rattle.bringup.proofs.Wents.{went-none, went-more, polled-more, polled-status}
 use Rattle.bringup.proofs.sends.poll_for_status.Needs as need
 
