@@ -18,7 +18,8 @@ use Rattle.line.specs.declared.command.Command.{Command}
 use Rattle.line.specs.declared.command.Command.the-variants.{Poll, Read}
 use Rattle.line.specs.declared.command.Reply.{Reply}
 use Rattle.line.specs.declared.command.Reply.the-variants.{Done, Byte, Polled}
-use Rattle.bringup.specs.Went.{Went, Broke, Ran, commands-of, all-answered, says-status, polls, any-status, Polled-until, byte-of, reads, Gathered, whole, cut}
+use Rattle.line.specs.Answers.{byte-in}
+use Rattle.bringup.specs.Went.{Went, Broke, Ran, commands-of, all-answered, says-status, polls, any-status, Polled-until, reads, Gathered, whole, cut}
 
 module _ {S : Type 0} {step : S → Command → Option Reply → S → Type 0} where
   pub went-none : {P : List Sending → Type 0} {s : S} {log : List Sending} → P [] → Went step s log s log P
@@ -127,14 +128,14 @@ nothing-read (p ∷ ps) = refl
 pub read-none : (ps bs : List ℕ) → bs ≡ [] → Read-sofar ps bs 0 []
 read-none ps bs e = rw e (nothing-read ps, refl)
 
-read-reply : (q : Option Reply) (b : ℕ) → byte-of q ≡ Some b → q ≡ Some (Byte b)
+read-reply : (q : Option Reply) (b : ℕ) → byte-in q ≡ Some b → q ≡ Some (Byte b)
 read-reply None b e = let z : _≡_ {A = ℕ} 0 1 = cc in absurd (omega arith)
 read-reply (Some Done) b e = let z : _≡_ {A = ℕ} 0 1 = cc in absurd (omega arith)
 read-reply (Some (Byte x)) b e = cc
 read-reply (Some (Polled p)) b e = let z : _≡_ {A = ℕ} 0 1 = cc in absurd (omega arith)
 
 -- what was read, from a table xs that holds the places
-pub read-more : (xs ps bs cs : List ℕ) (i b : ℕ) (q : Option Reply) → xs ≡ ps → i < length xs → byte-of q ≡ Some b → cs ≡ bs ++ b ∷ [] → (zs : List Sending) → Read-sofar ps bs i zs → Read-sofar ps cs (i + 1) (zs ++ (Read (getD xs i 0), q) ∷ [])
+pub read-more : (xs ps bs cs : List ℕ) (i b : ℕ) (q : Option Reply) → xs ≡ ps → i < length xs → byte-in q ≡ Some b → cs ≡ bs ++ b ∷ [] → (zs : List Sending) → Read-sofar ps bs i zs → Read-sofar ps cs (i + 1) (zs ++ (Read (getD xs i 0), q) ∷ [])
 read-more xs ps bs cs i b q same h e f zs p =
     let long = ap length same in
     let pushed = reads-push ps bs b (omega arith) in
@@ -142,7 +143,7 @@ read-more xs ps bs cs i b q same h e f zs p =
     let n = p .1 in
     (rw (p .0, reply, f, pushed, n, same) refl, ap length f ∙ length-push bs b ∙ ap (λ (k : ℕ). k + 1) n)
 
-pub read-stops : {R : Type 0} (xs ps bs : List ℕ) (of : List ℕ → Option R) (i : ℕ) (q : Option Reply) → xs ≡ ps → i < length xs → byte-of q ≡ None → (zs : List Sending) → Read-sofar ps bs i zs → Gathered ps of None (zs ++ (Read (getD xs i 0), q) ∷ [])
+pub read-stops : {R : Type 0} (xs ps bs : List ℕ) (of : List ℕ → Option R) (i : ℕ) (q : Option Reply) → xs ≡ ps → i < length xs → byte-in q ≡ None → (zs : List Sending) → Read-sofar ps bs i zs → Gathered ps of None (zs ++ (Read (getD xs i 0), q) ∷ [])
 read-stops xs ps bs of i q same h e zs p =
     let long = ap length same in
     let n = p .1 in

@@ -8,6 +8,7 @@ use lib.ListN.{length, getD, take}
 use Rattle.std.specs.declared.option.Option.{Option}
 use Rattle.std.specs.declared.option.Option.the-variants.{Some, None}
 use Rattle.std.specs.Options.{isSome}
+use Rattle.line.specs.Answers.{byte-in}
 use Rattle.line.specs.Sent.{Sending, Sent}
 use Rattle.line.specs.declared.command.Command.{Command}
 use Rattle.line.specs.declared.command.Command.the-variants.{Poll, Read}
@@ -62,12 +63,6 @@ abbrev pub Polled-until : ℕ → Bool → List Sending → Type 0
 Polled-until most true zs = (rs : List (Option Reply)) × (r : Option Reply) × (zs ≡ polls (rs ++ r ∷ [])) × (any-status rs ≡ false) × (says-status r ≡ true) × (length rs < most)
 Polled-until most false zs = (rs : List (Option Reply)) × (zs ≡ polls rs) × (any-status rs ≡ false) × (length rs ≡ most)
 
-abbrev pub byte-of : Option Reply → Option ℕ
-byte-of None = None
-byte-of (Some Done) = None
-byte-of (Some (Byte b)) = Some b
-byte-of (Some (Polled p)) = None
-
 -- the first places read, each answered by its byte
 abbrev pub reads : List ℕ → List ℕ → List Sending
 reads [] bs = []
@@ -78,4 +73,4 @@ reads (a ∷ ps) (b ∷ bs) = (Read a, Some (Byte b)) ∷ reads ps bs
 -- is no record.
 pub data Gathered {R : Type 0} (places : List ℕ) (of : List ℕ → Option R) (r : Option R) (zs : List Sending) : Type 0 where
   whole : (bs : List ℕ) → length bs ≡ length places → zs ≡ reads places bs → r ≡ of bs → Gathered places of r zs
-  cut : (bs : List ℕ) (q : Option Reply) → length bs < length places → zs ≡ reads places bs ++ (Read (getD places (length bs) 0), q) ∷ [] → byte-of q ≡ None → r ≡ None → Gathered places of r zs
+  cut : (bs : List ℕ) (q : Option Reply) → length bs < length places → zs ≡ reads places bs ++ (Read (getD places (length bs) 0), q) ∷ [] → byte-in q ≡ None → r ≡ None → Gathered places of r zs

@@ -10,17 +10,14 @@ use line::command::Command;
 use std::alloc::AllocError;
 use std::alloc::Global;
 use tca::field::CUSYN;
+use tca::field::DATA_AREA;
 use tca::field::DPASTAT;
 use tca::field::DPSSTAT;
 use tca::field::EXFAK;
+use tca::field::UNIT_HALF;
 use tca::request::Request;
 use tca::request::request_places;
 use tca::request::terminal_places;
-
-// The control unit's half of the control area.
-const UNIT_HALF: u16 = 0x40;
-
-const DATA_AREA: u16 = 0x80;
 
 // Reads of the three status toggles, in the order in which they are looked at.
 pub fn toggle_reads() -> [Command; 3]

@@ -4,13 +4,15 @@ ghost use mathlib.Core.Path.{_≡_};
 ghost use Rattle.std.specs.declared.option.Option.{Option};
 ghost use Rattle.std.specs.Options.{isSome};
 ghost use Rattle.std.specs.Results.{Cases};
+ghost use Rattle.line.specs.declared.command.Command.the-variants.{Read};
 ghost use Rattle.line.specs.declared.command.Reply.{Reply};
 ghost use Rattle.linelog.specs.Runs.{sendings};
-ghost use Rattle.bringup.specs.Went.{Went, Broke, Ran, Polled-until, Gathered, says-status, byte-of};
+ghost use Rattle.bringup.specs.Went.{Went, Broke, Ran, Polled-until, Gathered, says-status};
 use line::Line;
 use line::command::Command;
 use line::command::PollAnswer;
 use line::command::Reply;
+use line::reply::to_byte;
 use linelog::Log;
 use std::alloc::AllocError;
 use std::alloc::Global;
@@ -77,13 +79,12 @@ pub fn poll_for_status<L: Line>(line: &mut L, log: &mut Log) -> Result<bool, All
     Ok(false)
 }
 
-fn byte_in(reply: Option<Reply>) -> Option<u8>
-    ensures { λ r. ⌜ r ≡ byte-of reply ⌝ }
+fn read<L: Line>(line: &mut L, log: &mut Log, place: u16) -> Result<Option<Reply>, AllocError>
+    ensures { λ r. ⌜ Cases r
+        (λ q. step (now (line .entry)) (Read place) q (now (line .exit)) × (sendings (now (log .exit)) ≡ sendings (now (log .entry)) ++ (Read place, q) ∷ []))
+        (λ _. (q : Option Reply) × step (now (line .entry)) (Read place) q (now (line .exit)) × (sendings (now (log .exit)) ≡ sendings (now (log .entry)))) ⌝ }
 {
-    match reply {
-        Some(Reply::Byte(byte)) => Some(byte),
-        _ => None,
-    }
+    send(line, log, Command::Read(place))
 }
 
 // Reads the places of a family's record in order, up to the first that gives no byte: the record, if all
@@ -99,8 +100,8 @@ pub fn read_record<F: Family, L: Line>(
 {
     let mut bytes = Vec::new(heap);
     for place in F::places() {
-        let reply = send(line, log, Command::Read(*place))?;
-        let Some(byte) = byte_in(reply) else {
+        let reply = read(line, log, *place)?;
+        let Some(byte) = to_byte(reply) else {
             return Ok(None);
         };
         bytes.push(byte)?;

@@ -13,7 +13,7 @@ returns-in-Break-reply g c = broken-off _ (c .from-residual .result) (c .from-re
 pub returns-in-rest : need.returns-in-rest
 returns-in-rest g c =
     went-more (c .loop-place .inv) (c .in-Continue-reply .ensures tt)
-    (read-stops (c .places-place-items .result .now) (g .F·Family .places) _ (g .F·Family .of) (c .loop-place .place-index) _ (c .places-place-items .ensures) (c .loop-place-test .taken) (sym (c .byte-in .ensures) ∙ c .in-rest .is))
+    (read-stops (c .places-place-items .result .now) (g .F·Family .places) _ (g .F·Family .of) (c .loop-place .place-index) _ (c .places-place-items .ensures) (c .loop-place-test .taken) (sym (c .to-byte .ensures) ∙ c .in-rest .is))
 
 pub returns-in-Break-push : need.returns-in-Break-push
 returns-in-Break-push g c =
@@ -22,7 +22,7 @@ returns-in-Break-push g c =
 pub loop-place-again : need.loop-place-again
 loop-place-again g c =
     went-more (c .loop-place .inv) (c .in-Continue-reply .ensures tt)
-    (read-more (c .places-place-items .result .now) (g .F·Family .places) _ _ (c .loop-place .place-index) (c .in-Some .byte) _ (c .places-place-items .ensures) (c .loop-place-test .taken) (sym (c .byte-in .ensures) ∙ c .in-Some .is) (c .in-Continue-push .ensures tt .items))
+    (read-more (c .places-place-items .result .now) (g .F·Family .places) _ _ (c .loop-place .place-index) (c .in-Some .byte) _ (c .places-place-items .ensures) (c .loop-place-test .taken) (sym (c .to-byte .ensures) ∙ c .in-Some .is) (c .in-Continue-push .ensures tt .items))
 
 pub returns : need.returns
 returns g c =
