@@ -1,7 +1,8 @@
 // Lines out of chunks of input, in fixed memory: a line longer than the longest good one is only counted off.
 use crate::output::Output;
 use crate::session::Session;
-use std::error::AnyError;
+use std::alloc::AllocError;
+use std::io;
 
 // Longer than any line that is well-formed.
 const LONGEST: usize = 96;
@@ -44,7 +45,7 @@ impl Feed {
         part: &[u8],
         session: &mut Session,
         output: &mut Output,
-    ) -> Result<(), AnyError> {
+    ) -> Result<(), AllocError> {
         if !self.is_unfinished() {
             return session.answer(part, output);
         }
@@ -54,7 +55,7 @@ impl Feed {
         self.length = 0;
         self.overlong = false;
         if overlong {
-            output.refuse()?;
+            output.refuse();
             return Ok(());
         }
         session.answer(&self.held[0..length], output)
@@ -66,13 +67,16 @@ impl Feed {
         got: usize,
         session: &mut Session,
         output: &mut Output,
-    ) -> Result<(), AnyError> {
+    ) -> io::Result<()> {
         let got = got.min(chunk.len());
         let mut start = 0;
         for at in 0..got {
             if chunk[at] == b'\n' {
                 self.end_line(&chunk[start..at], session, output)?;
                 start = at + 1;
+                if output.is_nearly_full() {
+                    output.flush()?;
+                }
             }
         }
         self.hold(&chunk[start..got]);

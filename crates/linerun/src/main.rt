@@ -1,6 +1,7 @@
 // Reads commands for one line as text, performs them and writes each answer, so that an independent program
 // can be run on the same text and compared. docs/LINERUN.md has the format.
 mod answer;
+mod command;
 mod feed;
 mod output;
 mod parse;
@@ -31,7 +32,7 @@ fn run(rt: &LibcRuntime) -> Result<(), AnyError> {
         feed.take(&chunk, got, &mut session, &mut output)?;
     }
     if feed.is_unfinished() {
-        output.refuse()?;
+        output.refuse();
     }
     output.flush()?;
     Ok(())

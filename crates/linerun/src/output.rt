@@ -39,15 +39,16 @@ impl Output {
         }
     }
 
+    // One test of the room for all of it, since answers are made of few such pieces.
     pub fn text(&mut self, text: &[u8]) {
-        for byte in text {
-            self.put(*byte);
+        let start = self.used;
+        let end = start.saturating_add(text.len());
+        if end <= self.bytes.len() {
+            for (n, byte) in text.iter().enumerate() {
+                self.bytes[start + n] = *byte;
+            }
+            self.used = end;
         }
-    }
-
-    pub fn field(&mut self, text: &[u8]) {
-        self.put(b',');
-        self.text(text);
     }
 
     pub fn hex(&mut self, byte: u8) {
@@ -72,17 +73,12 @@ impl Output {
         }
     }
 
-    // Ends an answer, and makes room for the next.
-    pub fn end(&mut self) -> io::Result<()> {
-        self.put(b'\n');
-        if self.used > SIZE - LONGEST {
-            self.flush()?;
-        }
-        Ok(())
+    // Whether the next answer may find no room.
+    pub fn is_nearly_full(&self) -> bool {
+        self.used > SIZE - LONGEST
     }
 
-    pub fn refuse(&mut self) -> io::Result<()> {
-        self.text(b"?,13");
-        self.end()
+    pub fn refuse(&mut self) {
+        self.text(b"?,13\n");
     }
 }

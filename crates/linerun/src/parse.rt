@@ -1,15 +1,41 @@
 // Fields of a line of text.
 use losing::mark::Mark;
 
+const NO_DIGIT: u8 = 0x80;
+
+// What a digit counts, or NO_DIGIT: so that the digits of a field are tested by one comparison, which is what
+// the speed of this program hangs on.
+fn nibble(digit: u8) -> u8 {
+    let decimal = digit.wrapping_sub(b'0');
+    let letter = digit.wrapping_sub(b'A');
+    if decimal < 10 {
+        decimal
+    } else if letter < 6 {
+        letter + 10
+    } else {
+        NO_DIGIT
+    }
+}
+
 pub fn byte(high: u8, low: u8) -> Option<u8> {
-    let high = hex::value(high)?;
-    let low = hex::value(low)?;
+    let high = nibble(high);
+    let low = nibble(low);
+    if (high | low) >= NO_DIGIT {
+        return None;
+    }
     Some((high & 0x0f) * 16 + (low & 0x0f))
 }
 
 pub fn address(a: u8, b: u8, c: u8, d: u8) -> Option<u16> {
-    let high = byte(a, b)?;
-    let low = byte(c, d)?;
+    let a = nibble(a);
+    let b = nibble(b);
+    let c = nibble(c);
+    let d = nibble(d);
+    if (a | b | c | d) >= NO_DIGIT {
+        return None;
+    }
+    let high = (a & 0x0f) * 16 + (b & 0x0f);
+    let low = (c & 0x0f) * 16 + (d & 0x0f);
     Some(u16::from_be_bytes([high, low]))
 }
 

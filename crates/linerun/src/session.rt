@@ -1,13 +1,9 @@
 // The line in use, and what is noted for the next one.
+use crate::command::perform;
 use crate::output::Output;
 use crate::parse;
 use crate::state;
 use crate::state::Given;
-use line::Line;
-use line::command::Command;
-use line::command::PollAnswer;
-use line::command::Reply;
-use line::issue;
 use line::tellable::Tellable;
 use line::telling::Telling;
 use line::telling::Tells;
@@ -26,7 +22,6 @@ use losing::mark::Mark;
 use simulated::snapshot::Snapshot;
 use std::alloc::AllocError;
 use std::alloc::Global;
-use std::io;
 use tca::status::Event;
 use tca::status::ExpeditedStatus;
 use tca::status::SynchronousStatus;
@@ -50,27 +45,6 @@ pub struct Session {
     pub marks: Option<[Mark; 64]>,
 }
 
-fn write_answer<L: Line>(
-    line: &mut L,
-    letter: u8,
-    command: Command,
-    output: &mut Output,
-) -> io::Result<()> {
-    output.put(letter);
-    match issue(line, command) {
-        Some(Reply::Done) => output.field(b"done"),
-        Some(Reply::Byte(value)) => {
-            output.put(b',');
-            output.hex(value);
-        }
-        Some(Reply::Polled(PollAnswer::Reset)) => output.field(b"reset"),
-        Some(Reply::Polled(PollAnswer::Status)) => output.field(b"status"),
-        Some(Reply::Polled(PollAnswer::Clean)) => output.field(b"clean"),
-        None => output.field(b"none"),
-    }
-    output.end()
-}
-
 // The 32-bit FNV-1a hash.
 fn digest(memory: &[u8]) -> u32 {
     let mut hash: u32 = 2166136261;
@@ -81,7 +55,7 @@ fn digest(memory: &[u8]) -> u32 {
 }
 
 fn write_flag(set: bool, output: &mut Output) {
-    output.field(if set { b"1" } else { b"0" });
+    output.text(if set { b",1" } else { b",0" });
 }
 
 fn write_count(number: u32, output: &mut Output) {
@@ -89,7 +63,7 @@ fn write_count(number: u32, output: &mut Output) {
     output.decimal(number);
 }
 
-fn write_telling(telling: Telling<'_>, output: &mut Output) -> io::Result<()> {
+fn write_telling(telling: Telling<'_>, output: &mut Output) {
     output.put(b'T');
     write_flag(telling.waiting, output);
     write_flag(telling.working, output);
@@ -107,7 +81,7 @@ fn write_telling(telling: Telling<'_>, output: &mut Output) -> io::Result<()> {
     for byte in digest(telling.memory).to_be_bytes().iter() {
         output.hex(*byte);
     }
-    output.end()
+    output.put(b'\n');
 }
 
 pub fn read_end(text: &[u8]) -> Option<SynchronousStatus> {
@@ -144,17 +118,18 @@ impl Session {
         }
     }
 
-    pub fn command(&mut self, letter: u8, command: Command, output: &mut Output) -> io::Result<()> {
+    // Sends the command that the text spells down the line in use: whether it spells one.
+    pub fn command(&mut self, text: &[u8], output: &mut Output) -> bool {
         match &mut self.chosen {
-            Chosen::Nothing => output.refuse(),
-            Chosen::Terminal(line) => write_answer(line, letter, command, output),
-            Chosen::Printer(line) => write_answer(line, letter, command, output),
-            Chosen::LosingTerminal(line) => write_answer(line, letter, command, output),
-            Chosen::LosingPrinter(line) => write_answer(line, letter, command, output),
+            Chosen::Nothing => false,
+            Chosen::Terminal(line) => perform(line, text, output),
+            Chosen::Printer(line) => perform(line, text, output),
+            Chosen::LosingTerminal(line) => perform(line, text, output),
+            Chosen::LosingPrinter(line) => perform(line, text, output),
         }
     }
 
-    pub fn telling(&self, output: &mut Output) -> io::Result<()> {
+    pub fn telling(&self, output: &mut Output) {
         match &self.chosen {
             Chosen::Nothing => output.refuse(),
             Chosen::Terminal(line) => write_telling(line.telling(), output),
