@@ -2,7 +2,6 @@ ghost use mathlib.Core.Path.{_≡_};
 ghost use Prim.Native.Nat.{ℕ};
 ghost use lib.ListN.{length};
 ghost use Rattle.std.specs.declared.option.Option.{Option};
-ghost use Rattle.line.specs.Answers.{again};
 ghost use Rattle.line.specs.State.{State};
 ghost use Rattle.line.specs.Rules.{Permitted, Lawful, polled, byte, done};
 ghost use Rattle.line.specs.declared.command.Command.{Command};
@@ -62,8 +61,7 @@ pub trait Line {
 
 // One sending of one command.
 pub fn issue<L: Line>(line: &mut L, command: Command) -> Option<Reply>
-    ensures went { λ r. ⌜ step (now (line .entry)) command r (now (line .exit)) ⌝ }
-    ensures kind { λ r. ⌜ again command r ≡ r ⌝ }
+    ensures { λ r. ⌜ step (now (line .entry)) command r (now (line .exit)) ⌝ }
 {
     match command {
         Command::Poll => match line.poll() {

@@ -1,4 +1,3 @@
 pub mod Posting
 pub mod Terminals
-pub mod Kept
 pub mod Printers

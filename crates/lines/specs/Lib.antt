@@ -1,3 +1,2 @@
 pub mod Terminal
-pub mod Promises
 pub mod Printer

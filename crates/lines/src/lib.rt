@@ -1,5 +1,4 @@
 // The lines that are supplied.
 
 pub mod printer;
-pub mod promises;
 pub mod terminal;

@@ -1,7 +1,8 @@
 ghost use mathlib.Core.Path.{_≡_};
+ghost use mathlib.Core.Bool.{cond};
 ghost use mathlib.Core.List.{List};
+ghost use Prim.Native.Nat.{_+_, min};
 ghost use Rattle.std.specs.declared.option.Option.{Option};
-ghost use Rattle.line.specs.Answers.{again};
 ghost use Rattle.line.specs.State.{State};
 ghost use Rattle.line.specs.declared.command.Command.{Command};
 ghost use Rattle.line.specs.declared.command.Reply.{Reply};
@@ -10,42 +11,26 @@ ghost use Rattle.losing.specs.declared.mark.Mark.{Mark as TheMark};
 use crate::losing::Losing;
 use crate::mark::Mark;
 use line::Line;
-use line::command::Command;
 use line::command::PollAnswer;
-use line::command::Reply;
 use line::determined::Determined;
-use line::issue;
-use line::reply::to_byte;
-use line::reply::to_done;
-use line::reply::to_poll_answer;
 use line::tellable::Tellable;
 use line::telling::Telling;
 use line::telling::Tells;
 use tca::status::Event;
 use tca::status::SynchronousStatus;
 
-// One sending under a mark.
-fn lose<L: Line>(below: &mut L, mark: Mark, command: Command) -> Option<Reply>
-    ensures went { λ r. ⌜ Lost (L·Line .step) mark (now (below .entry)) command r (now (below .exit)) ⌝ }
-    ensures kind { λ r. ⌜ again command r ≡ r ⌝ }
-{
-    match mark {
-        Mark::Passes => issue(below, command),
-        Mark::Unheard => None,
-        Mark::Unanswered => {
-            let _ = issue(below, command);
-            None
+// One sending under the mark that is next: the one text for all commands. What is lost is `none`.
+macro_rules! lose {
+    ($line:ident, $sending:expr, $none:expr) => {
+        match $line.turn() {
+            Mark::Passes => $sending,
+            Mark::Unheard => $none,
+            Mark::Unanswered => {
+                let _ = $sending;
+                $none
+            }
         }
-    }
-}
-
-fn row_after(reply: Option<Reply>, row: u8) -> u8
-    ensures { λ r. ⌜ r ≡ row-by reply row ⌝ }
-{
-    match reply {
-        Some(_) => 0,
-        None => row.saturating_add(1),
-    }
+    };
 }
 
 impl<L> Losing<L> {
@@ -62,17 +47,25 @@ impl<L> Losing<L> {
     }
 }
 
-impl<L: Line> Losing<L> {
-    // Every command goes this way.
-    fn forward(&mut self, command: Command) -> Option<Reply>
-        ensures went { λ r. ⌜ Loses (L·Line .step) (now (self .entry) .marks) (now (self .entry) .next) (now (self .entry) .row) (now (self .entry) .below) command r (now (self .exit) .below) (now (self .exit) .marks) (now (self .exit) .next) (now (self .exit) .row) ⌝ }
-        ensures kind { λ r. ⌜ again command r ≡ r ⌝ }
+impl<L> Losing<L> {
+    // The next mark, with the rotation one further.
+    fn turn(&mut self) -> Mark
+        ensures value { λ r. ⌜ r ≡ mark-at (now (self .entry) .marks) (now (self .entry) .next) ⌝ }
+        ensures after { λ _. ⌜ (now (self .exit) .below ≡ now (self .entry) .below) × (now (self .exit) .marks ≡ now (self .entry) .marks) × (now (self .exit) .next ≡ turned (now (self .entry) .next)) × (now (self .exit) .row ≡ now (self .entry) .row) ⌝ }
     {
         let mark = self.marks[self.next as usize];
         self.next = (self.next + 1) % 64;
-        let reply = lose(&mut self.below, mark, command);
-        self.row = row_after(reply, self.row);
-        reply
+        mark
+    }
+
+    fn count(&mut self, answered: bool)
+        ensures { λ _. ⌜ (now (self .exit) .below ≡ now (self .entry) .below) × (now (self .exit) .marks ≡ now (self .entry) .marks) × (now (self .exit) .next ≡ now (self .entry) .next) × (now (self .exit) .row ≡ cond answered 0 (min 255 (now (self .entry) .row + 1))) ⌝ }
+    {
+        self.row = if answered {
+            0
+        } else {
+            self.row.saturating_add(1)
+        };
     }
 }
 
@@ -86,31 +79,45 @@ pub impl<L: Line> Line for Losing<L> as LosingLine {
     }
 
     fn poll(&mut self) -> Option<PollAnswer> {
-        to_poll_answer(self.forward(Command::Poll))
+        let answer = lose!(self, self.below.poll(), None);
+        self.count(answer.is_some());
+        answer
     }
 
     fn read(&mut self, address: u16) -> Option<u8> {
-        to_byte(self.forward(Command::Read(address)))
+        let answer = lose!(self, self.below.read(address), None);
+        self.count(answer.is_some());
+        answer
     }
 
     fn write(&mut self, address: u16, value: u8) -> bool {
-        to_done(self.forward(Command::Write(address, value)))
+        let answer = lose!(self, self.below.write(address, value), false);
+        self.count(answer);
+        answer
     }
 
     fn start(&mut self) -> bool {
-        to_done(self.forward(Command::Start))
+        let answer = lose!(self, self.below.start(), false);
+        self.count(answer);
+        answer
     }
 
     fn acknowledge(&mut self) -> bool {
-        to_done(self.forward(Command::Acknowledge))
+        let answer = lose!(self, self.below.acknowledge(), false);
+        self.count(answer);
+        answer
     }
 
     fn terminal_id(&mut self) -> bool {
-        to_done(self.forward(Command::TerminalId))
+        let answer = lose!(self, self.below.terminal_id(), false);
+        self.count(answer);
+        answer
     }
 
     fn reset(&mut self) -> bool {
-        to_done(self.forward(Command::Reset))
+        let answer = lose!(self, self.below.reset(), false);
+        self.count(answer);
+        answer
     }
 }
 

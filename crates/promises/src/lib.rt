@@ -1,6 +1,6 @@
 // What the terminal line promises, each as the contract of a function, so that the check asks for its
 // proof.
-ghost use Rattle.lines.specs.Promises.{Terminal-answers-whatever-it-may, Terminal-posts-the-event-it-was-told, Terminal-posts-no-other-event, Terminal-posts-the-end-it-was-told, Terminal-posts-no-other-end};
+ghost use Rattle.promises.specs.Promises.{Terminal-answers-whatever-it-may, Terminal-posts-the-event-it-was-told, Terminal-posts-no-other-event, Terminal-posts-the-end-it-was-told, Terminal-posts-no-other-end};
 
 pub fn terminal_answers_whatever_it_may()
     ensures { λ _. ⌜ Terminal-answers-whatever-it-may ⌝ }

@@ -1,5 +1,0 @@
-use Rattle.lines.proofs.Kept.{terminal-posts-no-other-end}
-use Rattle.lines.proofs.promises.terminal_posts_no_other_end.Needs as need
-
-pub returns : need.returns
-returns c = terminal-posts-no-other-end

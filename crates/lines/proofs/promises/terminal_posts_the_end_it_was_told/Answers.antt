@@ -1,5 +1,0 @@
-use Rattle.lines.proofs.Kept.{terminal-posts-the-end-it-was-told}
-use Rattle.lines.proofs.promises.terminal_posts_the_end_it_was_told.Needs as need
-
-pub returns : need.returns
-returns c = terminal-posts-the-end-it-was-told

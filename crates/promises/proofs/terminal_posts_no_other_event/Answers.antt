@@ -1,0 +1,5 @@
+use Rattle.promises.proofs.Kept.{terminal-posts-no-other-event}
+use Rattle.promises.proofs.terminal_posts_no_other_event.Needs as need
+
+pub returns : need.returns
+returns c = terminal-posts-no-other-event
