@@ -39,7 +39,7 @@ impl Output {
         }
     }
 
-    // One test of the room for all of it, since answers are made of few such pieces.
+    // One look at the room for all of it, since answers are made of few such pieces.
     pub fn text(&mut self, text: &[u8]) {
         let start = self.used;
         let end = start.saturating_add(text.len());

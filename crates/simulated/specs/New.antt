@@ -1,4 +1,4 @@
--- Whether a device is as a restart leaves it, as one test.
+-- Whether a device is as a restart leaves it.
 use mathlib.Core.List.{List}
 use mathlib.Core.Bool.{Bool, not, _&&_}
 use Prim.Native.Nat.{ℕ}
