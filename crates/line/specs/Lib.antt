@@ -4,3 +4,4 @@ pub mod Laws
 pub mod Told
 pub mod Sent
 pub mod Answers
+pub mod Posts

@@ -1,3 +1,2 @@
-pub mod Posting
 pub mod Terminals
 pub mod Printers

@@ -22,7 +22,7 @@ use Rattle.lines.specs.declared.printer.Printer.{Printer}
 use Rattle.simulated.specs.Posts.{free, with-end, with-expedited}
 use Rattle.simulated.specs.Simulated.{obliging, state-of}
 use Rattle.lines.specs.Printer.{Own, own, Steps, polled, over, ends-now, device-ended, due-now, reports-now}
-use Rattle.lines.proofs.Posting.{if-other, choice, after-posts, acts, never}
+use Rattle.line.proofs.Posting.{if-other, choice, after-posts, acts, never}
 
 -- a flag of the program's own beside what the rules ask
 end-due : (x w k z : Bool) → ((w && k) && (z && not (eqb (cond (x && ((w && z) && k)) 1 0) 0))) ≡ (x && ((w && z) && k))

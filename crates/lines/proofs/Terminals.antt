@@ -21,7 +21,7 @@ use Rattle.lines.specs.declared.terminal.Terminal.{Terminal}
 use Rattle.simulated.specs.Posts.{free, with-event, with-end}
 use Rattle.simulated.specs.Simulated.{obliging, device-of, state-of}
 use Rattle.lines.specs.Terminal.{Own, own, Steps, post-event, post-end, polled}
-use Rattle.lines.proofs.Posting.{post-if, if-other, choice, after-posts, acts, never}
+use Rattle.line.proofs.Posting.{post-if, if-other, choice, after-posts, acts, never}
 
 -- whether it posts, and the bytes
 

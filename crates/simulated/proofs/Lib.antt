@@ -1,3 +1,2 @@
 pub mod Zeros
 pub mod Starts
-pub mod Rows

@@ -1,24 +1,14 @@
--- What it is to post a status: its record is put into place, byte by byte, and its toggle set to X'01'.
-use mathlib.Core.List.{List, [], _∷_}
+-- What a simulated device is after it posted a status.
 use mathlib.Core.Bool.{Bool, false, not, _&&_}
 use Prim.Native.Nat.{ℕ, _+_, _%_, _^_}
 use lib.Dec.{eqb}
-use lib.ListN.{getD, set}
 use Rattle.tca.specs.Fields.{dpastat, dpsstat, exfak, event-places, synchronous-places, expedited-places}
 use Rattle.tca.specs.Records.{event-bytes, synchronous-bytes, expedited-bytes}
 use Rattle.tca.specs.declared.status.Event.{Event}
 use Rattle.tca.specs.declared.status.SynchronousStatus.{SynchronousStatus}
 use Rattle.tca.specs.declared.status.ExpeditedStatus.{ExpeditedStatus}
+use Rattle.line.specs.Posts.{posted}
 use Rattle.line.specs.State.{Device, at}
-
--- memory with bytes put at the addresses of a row, in its order
-abbrev pub put-row : List ℕ → List ℕ → List ℕ → List ℕ
-put-row [] bs m = m
-put-row (p ∷ ps) [] m = m
-put-row (p ∷ ps) (b ∷ bs) m = put-row ps bs (set m p b)
-
-abbrev pub posted : ℕ → List ℕ → List ℕ → List ℕ → List ℕ
-posted toggle places bytes m = set (put-row places bytes m) toggle 1
 
 -- whether a device may post over a toggle
 abbrev pub free : ℕ → Device → Bool

@@ -162,12 +162,12 @@ impl SimulatedDevice {
         ensures value { λ r. ⌜ done r ≡ answer Start obliging (state-of (now (self .entry))) ⌝ }
     {
         self.row = 0;
-        if self.restarts_at_start() {
-            self.restart();
-            return true;
-        }
         if self.takes_at_start() {
             self.take();
+            return true;
+        }
+        if self.restarts_at_start() {
+            self.restart();
         }
         true
     }

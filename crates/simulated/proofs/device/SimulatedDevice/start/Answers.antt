@@ -23,9 +23,9 @@ returns-then-takes-at-start c =
     let so = takes obliging d (s .waiting) (eqb (at d cusyn) (s .seen)) (s .working) (c .if-takes-at-start .ensures tt) in
     record { after = c .take .ensures ∙ answered-row (took d) _ so; value = refl }
 
-pub returns-else-takes-at-start : need.returns-else-takes-at-start
+pub returns-else-restarts-at-start : need.returns-else-restarts-at-start
 unfolding started
-returns-else-takes-at-start c =
+returns-else-restarts-at-start c =
     let s = c .args .self .now in
     let d = device-of s in
     let so = ignores obliging d (s .waiting) (eqb (at d cusyn) (s .seen)) (s .working) (c .if-restarts-at-start .ensures tt) (c .if-takes-at-start .ensures tt) in

@@ -4,7 +4,7 @@ use Prim.Native.Nat.{ℕ, _<_}
 use native.Mathlib.Omega.{arith}
 use lib.ListN.{length, getD, set}
 use Rattle.std.specs.Of.Vec.{vec-items}
-use Rattle.simulated.proofs.Rows.{row-more, row-all}
+use Rattle.line.proofs.Rows.{row-more, row-all}
 use Rattle.simulated.proofs.device.posts.fill.Needs as need
 
 pub loop-n-holds : need.loop-n-holds

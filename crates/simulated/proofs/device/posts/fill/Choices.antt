@@ -1,7 +1,7 @@
 use mathlib.Core.Path.{_≡_}
 use lib.ListN.{drop}
 use Rattle.std.specs.Of.Vec.{vec-len, vec-items}
-use Rattle.simulated.specs.Posts.{put-row}
+use Rattle.line.specs.Posts.{put-row}
 use Rattle.simulated.proofs.device.posts.fill.Given as given
 
 -- what is still to be put into place makes of memory what the whole would have made of it

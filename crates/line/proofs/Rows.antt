@@ -10,8 +10,8 @@ use lib.ListN.{length, getD, set, drop, length-set}
 use lib.Seq.{getD-set-same, getD-set-other}
 use borrow.Author.Tests.{clash, eq-eqb, eqb-true, eqb-false, ne-eqb, ltb-true}
 use Rattle.std.proofs.shelf.Lists.{drop-more, drop-all}
 use Rattle.line.specs.Rules.{is-in}
-use Rattle.simulated.specs.Posts.{put-row}
+use Rattle.line.specs.Posts.{put-row}
 
 pub row-more : (ps bs m : List ℕ) (i : ℕ) → i < length ps → i < length bs
     → put-row (drop (i + 1) ps) (drop (i + 1) bs) (set m (getD ps i 0) (getD bs i 0)) ≡ put-row (drop i ps) (drop i bs) m

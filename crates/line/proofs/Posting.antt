@@ -10,11 +10,11 @@ use lib.ListN.{length, getD, set, length-set}
 use lib.Seq.{getD-set-same, getD-set-other}
 use borrow.Author.Tests.{clash, eqb-false, ne-eqb}
 use Rattle.tca.specs.Fields.{dpastat, dpsstat, exfak, event-places, synchronous-places, expedited-places, unit-half, data-area}
 use Rattle.line.specs.State.{Device, Choice, answered, at}
 use Rattle.line.specs.Rules.{is-in, act, counted, posts-event, posts-end, posts-expedited}
 use Rattle.line.proofs.Acts.{Leaves, left}
-use Rattle.simulated.specs.Posts.{posted, put-row}
-use Rattle.simulated.proofs.Rows.{row-length, row-other, row-read, read-row, read-same, distinct, all-below, apart, beyond}
+use Rattle.line.specs.Posts.{posted, put-row}
+use Rattle.line.proofs.Rows.{row-length, row-other, row-read, read-row, read-same, distinct, all-below, apart, beyond}
 
 -- a value of zero posts nothing
 pub never : (r z : Bool) → (r && (z && false)) ≡ false
