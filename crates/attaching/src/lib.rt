@@ -1,4 +1,6 @@
 // What an attach sends: from a waiting restart to the unit's ready report.
+#![tactic(auto)]
+
 ghost use Rattle.tca.specs.Fields.{unit_half};
 ghost use Rattle.procedures.specs.Procedure.{rising, writes_row};
 ghost use Rattle.procedures.specs.Performs.{Performs};

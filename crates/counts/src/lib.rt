@@ -1,4 +1,6 @@
 // The promise above all: two counts are equal exactly when a port owes nothing.
+#![tactic(auto)]
+
 ghost use Rattle.counts.specs.Law.{CountsAgree};
 
 // For a unit just made, any list of calls with any arguments, and any lines that keep the rules, whatever they

@@ -1,4 +1,6 @@
 // Which events of a device are allowed, and what each changes.
+#![tactic(auto)]
+
 ghost use Rattle.std.specs.Prelude.{◌≡◌};
 ghost use Rattle.ports.specs.Events.{judge as judged, is_sna};
 ghost use Rattle.ports.specs.Terminals.{only_terminals};

@@ -1,4 +1,6 @@
 // What the supplied lines do on examples. They stand in a crate of their own, since a crate with tests is
 // proved twice.
+#![tactic(auto)]
+
 #[cfg(test)]
 mod terminal;

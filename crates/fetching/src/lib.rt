@@ -1,4 +1,6 @@
 // A fetch: so many bytes of the device's memory, into the front of a buffer.
+#![tactic(auto)]
+
 ghost use Rattle.std.specs.Prelude.{◌≡◌, ◌+◌, ◌≤◌, length};
 ghost use Rattle.procedures.specs.Performs.{Performs};
 ghost use Rattle.ports.specs.Sendings.{fetches};

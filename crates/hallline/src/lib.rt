@@ -1,4 +1,6 @@
 // One type for the lines of a hall, so that lines of several kinds stand in one array.
+#![tactic(auto)]
+
 mod commands;
 
 use lines::printer::Printer;

@@ -1,4 +1,6 @@
 // What is sent to hand a status over that the device posted by itself.
+#![tactic(auto)]
+
 ghost use Rattle.tca.specs.Records.{event_bytes, expedited_bytes};
 ghost use Rattle.procedures.specs.Performs.{Performs, as_bytes};
 ghost use Rattle.ports.specs.Sendings.{settles, expedites};

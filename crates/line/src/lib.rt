@@ -1,3 +1,5 @@
+#![tactic(auto)]
+
 ghost use Rattle.std.specs.Prelude.{◌≡◌, ℕ, length, Option};
 ghost use Rattle.line.specs.State.{State};
 ghost use Rattle.line.specs.Rules.{Permitted, Lawful, polled, byte, done};
@@ -56,7 +58,7 @@ pub trait Line {
 
 // One sending of one command.
 pub fn issue<L: Line>(line: &mut L, command: Command) -> Option<Reply>
-    ensures { step line.old command result line.new }
+    ensures { L.step line.old command result line.new }
 {
     match command {
         Command::Poll => match line.poll() {

@@ -1,7 +1,7 @@
 -- The script that a text says.
 use Rattle.std.specs.Prelude.{ℕ, ◌-◌, Bool, cond, ◌&&◌, List, length, take, drop, Some, None, Option, ◌==◌, nat_lt, slice_index}
 use Rattle.tca.specs.Records.{synchronous_of}
-use Rattle.hex.specs.Hex.{row_in}
+use Rattle.hexadecimal.specs.Hex.{row_in}
 use Rattle.linecheck.specs.declared.script.Script.{Script}
 
 -- the code of the end of a line

@@ -1,4 +1,6 @@
 // Brings a terminal up from its restart to the end of its first request, and prints what went down its line.
+#![tactic(auto)]
+
 mod report;
 mod script;
 

@@ -49,9 +49,9 @@ pub fn parse(text: &[u8]) -> Result<Script, Refusal>
         return Err(Refusal::Malformed);
     }
     let mut terminals = [0; 5];
-    hex::decode(&lines[0..ADDRESSES], &mut terminals)?;
+    hexadecimal::decode(&lines[0..ADDRESSES], &mut terminals)?;
     let mut end = [0; 4];
-    hex::decode(&lines[ADDRESSES + 1..ADDRESSES + 1 + STATUS], &mut end)?;
+    hexadecimal::decode(&lines[ADDRESSES + 1..ADDRESSES + 1 + STATUS], &mut end)?;
     Ok(Script {
         terminals,
         end: SynchronousStatus::from_bytes(end),

@@ -1,4 +1,6 @@
 // What went down one line, in order, with what came back. A run of like sendings is kept as one.
+#![tactic(auto)]
+
 mod methods;
 
 use line::command::{Command, Reply};

@@ -13,7 +13,7 @@ fn write_done(letter: u8, answered: bool, output: &mut Output) {
 fn write_byte(answer: Option<u8>, output: &mut Output) {
     match answer {
         Some(value) => {
-            let [high, low] = hex::encode(value);
+            let [high, low] = hexadecimal::encode(value);
             output.text(&[b'R', b',', high, low, b'\n']);
         }
         None => output.text(b"R,none\n"),

@@ -1,5 +1,7 @@
 // Reads commands for one line as text, performs them and writes each answer, so that an independent program
 // can be run on the same text and compared. docs/LINERUN.md has the format.
+#![tactic(auto)]
+
 mod answer;
 mod command;
 mod feed;

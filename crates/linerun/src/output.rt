@@ -51,7 +51,7 @@ impl Output {
     }
 
     pub fn hex(&mut self, byte: u8) {
-        self.text(&hex::encode(byte));
+        self.text(&hexadecimal::encode(byte));
     }
 
     pub fn decimal(&mut self, number: u32) {

@@ -74,7 +74,7 @@ fn write_telling(telling: Telling<'_>, output: &mut Output) {
 
 pub fn read_end(text: &[u8]) -> Option<SynchronousStatus> {
     let mut bytes = [0; 4];
-    match hex::decode(text, &mut bytes) {
+    match hexadecimal::decode(text, &mut bytes) {
         Ok(()) => Some(SynchronousStatus::from_bytes(bytes)),
         Err(_) => None,
     }
@@ -82,7 +82,7 @@ pub fn read_end(text: &[u8]) -> Option<SynchronousStatus> {
 
 pub fn read_event(text: &[u8]) -> Option<Event> {
     let mut bytes = [0; 6];
-    match hex::decode(text, &mut bytes) {
+    match hexadecimal::decode(text, &mut bytes) {
         Ok(()) => Some(Event::from_bytes(bytes)),
         Err(_) => None,
     }
@@ -90,7 +90,7 @@ pub fn read_event(text: &[u8]) -> Option<Event> {
 
 fn read_expedited(text: &[u8]) -> Option<ExpeditedStatus> {
     let mut bytes = [0; 6];
-    match hex::decode(text, &mut bytes) {
+    match hexadecimal::decode(text, &mut bytes) {
         Ok(()) => Some(ExpeditedStatus::from_bytes(bytes)),
         Err(_) => None,
     }

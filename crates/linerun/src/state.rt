@@ -24,7 +24,7 @@ fn byte(text: &[u8]) -> Option<u8> {
 
 fn request(text: &[u8]) -> Option<[u8; 8]> {
     let mut bytes = [0; 8];
-    match hex::decode(text, &mut bytes) {
+    match hexadecimal::decode(text, &mut bytes) {
         Ok(()) => Some(bytes),
         Err(_) => None,
     }

@@ -1,4 +1,5 @@
 // The lines that are supplied.
+#![tactic(auto)]
 
 pub mod printer;
 pub mod terminal;

@@ -1,4 +1,6 @@
 // What a poll sees: its answer, and the toggles if it says status.
+#![tactic(auto)]
+
 ghost use Rattle.std.specs.Prelude.{◌≡◌, Ok};
 ghost use Rattle.line.specs.declared.command.PollAnswer.TheVariants.{Status as StatusIsThere};
 ghost use Rattle.procedures.specs.Procedure.{said as says};

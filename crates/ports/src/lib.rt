@@ -1,5 +1,6 @@
 // What a unit keeps for each port, what its calls answer, and by definitions what each call does to one port
 // and one line.
+#![tactic(auto)]
 
 pub mod answers;
 pub mod disconnection;

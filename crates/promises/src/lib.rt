@@ -1,5 +1,7 @@
 // What the terminal line promises, each as the contract of a function, so that the check asks for its
 // proof.
+#![tactic(auto)]
+
 ghost use Rattle.promises.specs.Promises.{TerminalAnswersWhateverItMay, TerminalPostsTheEventItWasTold, TerminalPostsNoOtherEvent, TerminalPostsTheEndItWasTold, TerminalPostsNoOtherEnd};
 
 pub fn terminal_answers_whatever_it_may()

@@ -1,4 +1,6 @@
 // A request: its data goes down first, then its start.
+#![tactic(auto)]
+
 ghost use Rattle.std.specs.Prelude.{◌≡◌, ◌+◌, ◌≤◌, length};
 ghost use Rattle.procedures.specs.Procedure.{rising, writes_row};
 ghost use Rattle.procedures.specs.Performs.{Performs};

@@ -1,4 +1,5 @@
 // Commands sent until they are answered: the only place that sends one again.
+#![tactic(auto)]
 
 pub mod rows;
 pub mod starting;

@@ -1,4 +1,5 @@
 // A device in memory, behind a coax that loses nothing: what every supplied line is built on.
+#![tactic(auto)]
 
 pub mod device;
 pub mod size;

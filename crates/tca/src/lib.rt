@@ -1,4 +1,5 @@
 // The Terminal Control Area: its fields, and the records that stand in it.
+#![tactic(auto)]
 
 pub mod family;
 pub mod field;

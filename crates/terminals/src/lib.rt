@@ -1,4 +1,6 @@
 // The logical terminals of a port: which are configured, and which of them are online.
+#![tactic(auto)]
+
 ghost use Rattle.std.specs.Prelude.{◌≡◌};
 ghost use Rattle.line.specs.Rules.{is_in};
 ghost use Rattle.ports.specs.Terminals.{none_configured, some_equal, is_configured, is_online, all_configured, first_bit};

@@ -1,4 +1,6 @@
 // Which port is served next.
+#![tactic(auto)]
+
 ghost use Rattle.std.specs.Prelude.{◌≡◌};
 ghost use Rattle.ports.specs.Turn.{turn as whose_turn, named_last, lowest as lowest_of, marked_expedited};
 ghost use Rattle.turning.specs.Wanted.{wants, with_last};

@@ -1,6 +1,6 @@
 use Rattle.std.proofs.Common.{◌≡◌, drop}
-use Rattle.hex.specs.Hex.{all_digits}
-use Rattle.hex.proofs.is_all_digits.Given as goal
+use Rattle.hexadecimal.specs.Hex.{all_digits}
+use Rattle.hexadecimal.proofs.is_all_digits.Given as goal
 
 -- what is left decides
 abbrev pub invariant-loop-character : goal.invariant-loop-character

@@ -1,7 +1,9 @@
 // Upper-case hexadecimal: digits, bytes and rows of bytes.
+#![tactic(auto)]
+
 ghost use Rattle.std.specs.Prelude.{◌≡◌, ◌*◌, true, [], ◌∷◌, length, is_some, Some, None, MatchResult};
 ghost use Rattle.codes.specs.declared.number.Refusal.TheVariants.{Malformed};
-ghost use Rattle.hex.specs.Hex.{digit_value, value_or_zero, digit_of, spelled, row_in, all_digits};
+ghost use Rattle.hexadecimal.specs.Hex.{digit_value, value_or_zero, digit_of, spelled, row_in, all_digits};
 
 use codes::number::Refusal;
 

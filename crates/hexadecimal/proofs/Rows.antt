@@ -1,7 +1,7 @@
 -- Which texts spell a row, and which row.
 use Rattle.std.proofs.Common.{◌≡◌, ℕ, zero, suc, ◌+◌, ◌*◌, ◌<◌, Bool, true, false, ◌&&◌, List, [], ◌∷◌, length, get_or, drop, is_some, Some, None, Option, unwrap_or, sym, refl, ◌∙◌, add-one, arith, drop-cons}
 use lib.Seq.{drop-length}
-use Rattle.hex.specs.Hex.{digit_value, value_or_zero, byte_in, before, row_in, all_digits}
+use Rattle.hexadecimal.specs.Hex.{digit_value, value_or_zero, byte_in, before, row_in, all_digits}
 
 -- one more character of a text
 digits_from : (text : List ℕ) (i : ℕ) → i < length text → all_digits (drop i text) ≡ (is_some (digit_value (get_or text i 0)) && all_digits (drop (suc i) text))

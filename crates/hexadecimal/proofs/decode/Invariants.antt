@@ -1,6 +1,6 @@
 use Rattle.std.proofs.Common.{◌≡◌, ℕ, ◌<◌, get_or}
-use Rattle.hex.proofs.Rows.{byte_at}
-use Rattle.hex.proofs.decode.Given as goal
+use Rattle.hexadecimal.proofs.Rows.{byte_at}
+use Rattle.hexadecimal.proofs.decode.Given as goal
 
 -- each place below n is filled
 abbrev pub invariant-loop-n : goal.invariant-loop-n

@@ -1,7 +1,7 @@
 use Rattle.std.proofs.Common.{◌≡◌, ℕ, ◌*◌, length, sym, ◌∙◌, arith}
-use Rattle.hex.proofs.Rows.{right_length, wrong_length}
-use Rattle.hex.proofs.is_row.Goals as goal
-use Rattle.hex.proofs.is_row.Goals.{then-text-count-via-then-text-count, then-text-count-via-else-text-count+then-text-ne0}
+use Rattle.hexadecimal.proofs.Rows.{right_length, wrong_length}
+use Rattle.hexadecimal.proofs.is_row.Goals as goal
+use Rattle.hexadecimal.proofs.is_row.Goals.{then-text-count-via-then-text-count, then-text-count-via-else-text-count+then-text-ne0}
 
 differs : (c : goal.Joined-then-text-count) → length c.args.text.now ≡ 2 * c.args.count → ⊥
 differs c e = elim c.then-text-count.branch [ then-text-count-via-then-text-count w ↦ omega arith | then-text-count-via-else-text-count+then-text-ne0 w ↦ omega arith ]
@@ -15,4 +15,4 @@ returns-then-text-count c = record {
 pub returns : goal.returns
 returns c =
     let e : length c.args.text.now ≡ 2 * c.args.count = omega arith in
-    record { value = c.is-all-digits.ensures ∙ sym (right_length c.args.count c.args.text.now e); long = λ _. e }
+    record { value = c.is_all_digits.ensures ∙ sym (right_length c.args.count c.args.text.now e); long = λ _. e }

@@ -1,6 +1,6 @@
 use Rattle.std.proofs.Common.{arith}
-use Rattle.hex.proofs.Rows.{digit_next, not_digit_next, digits_all}
-use Rattle.hex.proofs.is_all_digits.Goals as goal
+use Rattle.hexadecimal.proofs.Rows.{digit_next, not_digit_next, digits_all}
+use Rattle.hexadecimal.proofs.is_all_digits.Goals as goal
 
 pub returns-then-is-none : goal.returns-then-is-none
 returns-then-is-none c =
@@ -9,7 +9,7 @@ returns-then-is-none c =
 
 pub loop-character-preserved : goal.loop-character-preserved
 loop-character-preserved c =
-    let e = c.if-is-none.ensures in
+    let e = c.if-is_none.ensures in
     digit_next c.args.text.now c.loop-character.character-index c.loop-character-test.true (rw c.value.ensures at e) c.loop-character.invariant
 
 pub returns : goal.returns
