@@ -23,5 +23,5 @@ pub struct SimulatedDevice {
     ghost small: { vec_len memory ≤ 32768 },
     ghost eight: { length last ≡ 8 },
     ghost fits: { (taken < 2 ^ 32) × (events < 2 ^ 32) × (expedited < 2 ^ 32) × (row ≤ 255) },
-    ghost new: { (waiting ≡ true → is_new memory.items working seen taken events expedited ≡ true) },
+    ghost new_while_waiting: { (waiting ≡ true → is_new memory.items working seen taken events expedited ≡ true) },
 }

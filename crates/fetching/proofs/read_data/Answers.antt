@@ -6,19 +6,19 @@ use Rattle.fetching.proofs.read_data.Goals as goal
 pub loop-i-init : goal.loop-i-init
 loop-i-init g c = front_begins g.L.Line.step g.L.Line.state g.met.L.Line.keeps c.args.address c.args.count c.args.buffer.now c.args.line.now
 
-pub returns-in-err-buffer : goal.returns-in-err-buffer
-returns-in-err-buffer g c =
+pub returns-in_err-buffer : goal.returns-in_err-buffer
+returns-in_err-buffer g c =
     let here : c.loop-i.i < c.args.count = c.loop-i-test.true in
     let within : c.loop-i.i < length c.loop-i.buffer = omega arith in
-    let q = err_from_is_err_and c.from-residual.result c.from-residual.ensures.1 in
-    let f = front_broken g.L.Line.step g.L.Line.state g.met.L.Line.keeps c.args.address c.args.count c.args.buffer.now c.args.line.now c.loop-i.line c.read.new.line c.loop-i.i c.loop-i.buffer _ here within c.loop-i.invariant c.in-err-buffer.ensures in
+    let q = err_from_is_err_and c.from_residual.result c.from_residual.ensures.1 in
+    let f = front_broken g.L.Line.step g.L.Line.state g.met.L.Line.keeps c.args.address c.args.count c.args.buffer.now c.args.line.now c.loop-i.line c.read.new.line c.loop-i.i c.loop-i.buffer _ here within c.loop-i.invariant c.in_err-buffer.ensures in
     rw (q.1, q.2) (record { commands = f.0; after = f.1 })
 
 pub loop-i-preserved : goal.loop-i-preserved
 loop-i-preserved g c =
     let here : c.loop-i.i < c.args.count = c.loop-i-test.true in
     let within : c.loop-i.i < length c.loop-i.buffer = omega arith in
-    front_more g.L.Line.step g.L.Line.state g.met.L.Line.keeps c.args.address c.args.count c.args.buffer.now c.args.line.now c.loop-i.line c.read.new.line c.loop-i.i c.in-ok-buffer.field-0 c.loop-i.buffer here within c.loop-i.invariant c.in-ok-buffer.ensures
+    front_more g.L.Line.step g.L.Line.state g.met.L.Line.keeps c.args.address c.args.count c.args.buffer.now c.args.line.now c.loop-i.line c.read.new.line c.loop-i.i c.in_ok-buffer.field-0 c.loop-i.buffer here within c.loop-i.invariant c.in_ok-buffer.ensures
 
 pub returns : goal.returns
 returns g c =

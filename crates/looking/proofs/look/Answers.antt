@@ -1,8 +1,8 @@
 use Rattle.procedures.proofs.Steps.{◌▸◌, stops}
 use Rattle.looking.proofs.look.Goals as goal
 
-pub returns-in-err-reply : goal.returns-in-err-reply
-returns-in-err-reply g c = stops _ c.from-residual.ensures.1 c.in-err-reply.ensures
+pub returns-in_err-reply : goal.returns-in_err-reply
+returns-in_err-reply g c = stops _ c.from_residual.ensures.1 c.in_err-reply.ensures
 
 pub returns : goal.returns
-returns g c = c.in-ok-reply.ensures ▸ rw c.said.ensures at c.see.ensures
+returns g c = c.in_ok-reply.ensures ▸ rw c.said.ensures at c.see.ensures

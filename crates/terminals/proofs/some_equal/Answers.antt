@@ -4,7 +4,7 @@ use Rattle.line.specs.Rules.{is_in}
 use Rattle.ports.specs.Port.{no_terminal}
 use Rattle.ports.specs.Terminals.{some_equal}
 use Rattle.terminals.proofs.some_equal.Goals as goal
-use Rattle.terminals.proofs.some_equal.Goals.{else-address-via-then-address+else-is-in, else-address-via-else-address}
+use Rattle.terminals.proofs.some_equal.Goals.{else-address-via-then-address+else-is_in, else-address-via-else-address}
 
 -- all but the first, as the pattern takes it
 abbrev others : List ℕ → List ℕ
@@ -18,14 +18,14 @@ none : (xs : List ℕ) → length xs < 1 → some_equal xs ≡ false
 none [] h = refl
 none (x ∷ xs) h = let z : ⊥ = omega arith in absurd z
 
-pub returns-then-is-in : goal.returns-then-is-in
-returns-then-is-in c =
+pub returns-then-is_in : goal.returns-then-is_in
+returns-then-is_in c =
     rw (c.loop-left.invariant, step c.loop-left.left.now (omega (arith, ltb-false))) (grind (arith, nat_tests))
 
 pub loop-left-preserved : goal.loop-left-preserved
 loop-left-preserved c =
     rw (c.loop-left.invariant, step c.loop-left.left.now (omega (arith, ltb-false)))
-    (elim c.else-address.branch [ else-address-via-then-address+else-is-in w ↦ grind (arith, nat_tests) | else-address-via-else-address w ↦ grind (arith, nat_tests) ])
+    (elim c.else-address.branch [ else-address-via-then-address+else-is_in w ↦ grind (arith, nat_tests) | else-address-via-else-address w ↦ grind (arith, nat_tests) ])
 
 pub returns : goal.returns
 returns c = sym (c.loop-left.invariant ∙ none c.loop-left.left.now (omega (arith, ltb-true)))

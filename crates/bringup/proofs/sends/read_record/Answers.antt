@@ -5,24 +5,24 @@ use Rattle.bringup.proofs.sends.read_record.Goals as goal
 pub loop-place-init : goal.loop-place-init
 loop-place-init g c = went_none (read_none g.F.Family.places c.new-bytes.result.items c.new-bytes.ensures.items)
 
-pub returns-in-err-reply : goal.returns-in-err-reply
-returns-in-err-reply g c = broken_off _ c.from-residual.result c.from-residual.ensures.0 (broke_after c.loop-place.invariant c.in-err-reply.ensures)
+pub returns-in_err-reply : goal.returns-in_err-reply
+returns-in_err-reply g c = broken_off _ c.from_residual.result c.from_residual.ensures.0 (broke_after c.loop-place.invariant c.in_err-reply.ensures)
 
-pub returns-in-default : goal.returns-in-default
-returns-in-default g c =
-    went_more c.loop-place.invariant c.in-ok-reply.ensures
-    (read_stops c.places-place-items.result.now g.F.Family.places _ g.F.Family.of c.loop-place.place-index _ c.places-place-items.ensures c.loop-place-test.true (sym c.to-byte.ensures ∙ c.in-default.is))
+pub returns-in_default : goal.returns-in_default
+returns-in_default g c =
+    went_more c.loop-place.invariant c.in_ok-reply.ensures
+    (read_stops c.places-place-items.result.now g.F.Family.places _ g.F.Family.of c.loop-place.place-index _ c.places-place-items.ensures c.loop-place-test.true (sym c.to_byte.ensures ∙ c.in_default.is))
 
-pub returns-in-err-push : goal.returns-in-err-push
-returns-in-err-push g c =
-    broken_off _ c.from-residual-in-err-push.result c.from-residual-in-err-push.ensures.0 (broke_there (went_more {Q = λ _. Unit {0}} c.loop-place.invariant c.in-ok-reply.ensures (λ zs p. tt)))
+pub returns-in_err-push : goal.returns-in_err-push
+returns-in_err-push g c =
+    broken_off _ c.from_residual-in_err-push.result c.from_residual-in_err-push.ensures.0 (broke_there (went_more {Q = λ _. Unit {0}} c.loop-place.invariant c.in_ok-reply.ensures (λ zs p. tt)))
 
 pub loop-place-preserved : goal.loop-place-preserved
 loop-place-preserved g c =
-    went_more c.loop-place.invariant c.in-ok-reply.ensures
-    (read_more c.places-place-items.result.now g.F.Family.places _ _ c.loop-place.place-index c.in-Some.byte _ c.places-place-items.ensures c.loop-place-test.true (sym c.to-byte.ensures ∙ c.in-Some.is) c.in-ok-push.ensures.items)
+    went_more c.loop-place.invariant c.in_ok-reply.ensures
+    (read_more c.places-place-items.result.now g.F.Family.places _ _ c.loop-place.place-index c.in-Some.byte _ c.places-place-items.ensures c.loop-place-test.true (sym c.to_byte.ensures ∙ c.in-Some.is) c.in_ok-push.ensures.items)
 
 pub returns : goal.returns
 returns g c =
     let same = ap length c.places-place-items.ensures in
-    went_so c.loop-place.invariant (read_all g.F.Family.places _ g.F.Family.of c.loop-place.place-index _ (omega arith) (rw c.deref.ensures.value at c.from-slice.ensures))
+    went_so c.loop-place.invariant (read_all g.F.Family.places _ g.F.Family.of c.loop-place.place-index _ (omega arith) (rw c.deref.ensures.value at c.from_slice.ensures))

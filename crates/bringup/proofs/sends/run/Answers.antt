@@ -7,12 +7,12 @@ loop-command-init g c = went_none (refl, refl)
 
 pub returns-then-not-answered : goal.returns-then-not-answered
 returns-then-not-answered g c =
-    went_on c.loop-command.invariant c.in-ok-answered.ensures c.if-not-answered.true
+    went_on c.loop-command.invariant c.in_ok-answered.ensures c.if-not-answered.true
     (ran_stops c.args.commands.now c.loop-command.command-index _ c.loop-command-test.true)
 
 pub loop-command-preserved : goal.loop-command-preserved
 loop-command-preserved g c =
-    went_on c.loop-command.invariant c.in-ok-answered.ensures c.if-not-answered.false
+    went_on c.loop-command.invariant c.in_ok-answered.ensures c.if-not-answered.false
     (ran_more c.args.commands.now c.loop-command.command-index _ c.loop-command-test.true)
 
 pub returns : goal.returns

@@ -6,5 +6,5 @@ use Rattle.calls.proofs.connecting.attach.Goals as goal
 pub returns : goal.returns
 returns g c =
     let k = c.args.port.now in
-    done g.L.Line.step g.L.Line.state g.met.L.Line.keeps (attach_call k) k c.args.line.now c.bring-up-attached.new.line c.bring-up-attached.result c.settle-attach.result c.settle-attach.new.port
-    (sym c.in-default.ensures) c.bring-up-attached.ensures c.settle-attach.ensures.value c.settle-attach.ensures.after
+    done g.L.Line.step g.L.Line.state g.met.L.Line.keeps (attach_call k) k c.args.line.now c.bring_up-attached.new.line c.bring_up-attached.result c.settle_attach.result c.settle_attach.new.port
+    (sym c.in_default.ensures) c.bring_up-attached.ensures c.settle_attach.ensures.value c.settle_attach.ensures.after

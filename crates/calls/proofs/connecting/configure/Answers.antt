@@ -6,5 +6,5 @@ use Rattle.calls.proofs.connecting.configure.Goals as goal
 pub returns : goal.returns
 unfolding performed
 returns c =
-    let none : refuse_configure c.args.terminals c.args.port.now ≡ None = sym c.in-default.ensures in
-    λ t. rw none ([], c.settle-configure.ensures.value, c.settle-configure.ensures.after, refl)
+    let none : refuse_configure c.args.terminals c.args.port.now ≡ None = sym c.in_default.ensures in
+    λ t. rw none ([], c.settle_configure.ensures.value, c.settle_configure.ensures.after, refl)

@@ -8,5 +8,5 @@ use Rattle.calls.proofs.statuses.collect.Goals as goal
 pub returns : goal.returns
 returns g c =
     let k = c.args.port.now in
-    done g.L.Line.step g.L.Line.state g.met.L.Line.keeps (collect_call k) k c.args.line.now c.read-status-read.new.line (as_bytes synchronous_bytes c.read-status-read.result) c.settle-collect.result c.settle-collect.new.port
-    (sym c.in-default.ensures) c.read-status-read.ensures c.settle-collect.ensures.value c.settle-collect.ensures.after
+    done g.L.Line.step g.L.Line.state g.met.L.Line.keeps (collect_call k) k c.args.line.now c.read_status-read.new.line (as_bytes synchronous_bytes c.read_status-read.result) c.settle_collect.result c.settle_collect.new.port
+    (sym c.in_default.ensures) c.read_status-read.ensures c.settle_collect.ensures.value c.settle_collect.ensures.after

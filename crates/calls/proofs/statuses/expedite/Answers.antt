@@ -8,5 +8,5 @@ use Rattle.calls.proofs.statuses.expedite.Goals as goal
 pub returns : goal.returns
 returns g c =
     let k = c.args.port.now in
-    done g.L.Line.step g.L.Line.state g.met.L.Line.keeps (expedite_call c.args.response k) k c.args.line.now c.expedite-read.new.line (as_bytes expedited_bytes c.expedite-read.result) c.settle-expedite.result c.settle-expedite.new.port
-    (sym c.in-default.ensures) c.expedite-read.ensures c.settle-expedite.ensures.value c.settle-expedite.ensures.after
+    done g.L.Line.step g.L.Line.state g.met.L.Line.keeps (expedite_call c.args.response k) k c.args.line.now c.expedite-read.new.line (as_bytes expedited_bytes c.expedite-read.result) c.settle_expedite.result c.settle_expedite.new.port
+    (sym c.in_default.ensures) c.expedite-read.ensures c.settle_expedite.ensures.value c.settle_expedite.ensures.after

@@ -5,18 +5,18 @@ use Rattle.sending.proofs.rows.write_row.Goals as goal
 pub loop-i-init : goal.loop-i-init
 loop-i-init g c = λ r t u. u
 
-pub returns-in-default : goal.returns-in-default
-returns-in-default g c = row_short c.args.places.now c.args.bytes.now c.loop-i.i _ _ _ c.loop-i-test.true (ltb-false _ _ (sym c.in-default.ensures.lookup.0)) c.loop-i.invariant
+pub returns-in_default : goal.returns-in_default
+returns-in_default g c = row_short c.args.places.now c.args.bytes.now c.loop-i.i _ _ _ c.loop-i-test.true (ltb-false _ _ (sym c.in_default.ensures.lookup.0)) c.loop-i.invariant
 
-pub returns-in-err-write : goal.returns-in-err-write
-returns-in-err-write g c =
+pub returns-in_err-write : goal.returns-in_err-write
+returns-in_err-write g c =
     let f = c.in-Some.ensures.lookup in
-    row_broken c.args.places.now c.args.bytes.now c.loop-i.i _ _ _ _ _ _ c.from-residual.ensures.1 c.loop-i-test.true (ltb-true _ _ (sym f.0)) c.loop-i.invariant (rw (f.3.1 0) at c.in-err-write.ensures)
+    row_broken c.args.places.now c.args.bytes.now c.loop-i.i _ _ _ _ _ _ c.from_residual.ensures.1 c.loop-i-test.true (ltb-true _ _ (sym f.0)) c.loop-i.invariant (rw (f.3.1 0) at c.in_err-write.ensures)
 
 pub loop-i-preserved : goal.loop-i-preserved
 loop-i-preserved g c =
     let f = c.in-Some.ensures.lookup in
-    row_more c.args.places.now c.args.bytes.now c.loop-i.i _ _ _ _ c.loop-i-test.true (ltb-true _ _ (sym f.0)) c.loop-i.invariant (rw (f.3.1 0) at c.in-ok-write.ensures)
+    row_more c.args.places.now c.args.bytes.now c.loop-i.i _ _ _ _ c.loop-i-test.true (ltb-true _ _ (sym f.0)) c.loop-i.invariant (rw (f.3.1 0) at c.in_ok-write.ensures)
 
 pub returns : goal.returns
 returns g c = row_done c.args.places.now c.args.bytes.now c.loop-i.i _ _ _ (omega arith) c.loop-i.invariant

@@ -4,8 +4,8 @@ use Rattle.simulated.specs.Simulated.{device_of, obliging}
 use Rattle.simulated.proofs.Zeros.{zeros_remade}
 use Rattle.simulated.proofs.device.SimulatedDevice.restart.Goals as goal
 
-pub invariant-of-self : goal.invariant-of-self
-invariant-of-self c =
+pub invariant_of-self : goal.invariant_of-self
+invariant_of-self c =
     let s = c.args.self.now in
     let big = s.large in
     let n = c.zero.ensures.len in
@@ -13,7 +13,13 @@ invariant-of-self c =
     let a : get_or (vec_items c.zero.new.memory) 0 0 ≡ 0 = z 0 (omega arith) in
     let b : get_or (vec_items c.zero.new.memory) 1 0 ≡ 0 = z 1 (omega arith) in
     let e : get_or (vec_items c.zero.new.memory) 0x26 0 ≡ 0 = z 0x26 (omega arith) in
-    (omega (arith, s.large), (omega (arith, s.small), (s.eight, ((omega arith, omega arith, omega arith, s.fits.3), (λ _. rw (a, b, e) refl, tt)))))
+    record {
+      large = omega (arith, s.large);
+      small = omega (arith, s.small);
+      eight = s.eight;
+      fits = (omega arith, omega arith, omega arith, s.fits.3);
+      new_while_waiting = λ _. rw (a, b, e) refl;
+    }
 
 pub returns : goal.returns
 returns c =

@@ -11,5 +11,5 @@ loop-byte-preserved c =
 pub returns : goal.returns
 returns c =
     let v = c.args.memory.now in
-    let long : length c.loop-byte.byte-items ≡ v.len = c.loop-byte.auto.byte-items ∙ c.deref-mut-byte-items.ensures.len in
+    let long : length c.loop-byte.byte-items ≡ v.len = c.loop-byte.auto.byte-items ∙ c.deref_mut-byte-items.ensures.len in
     record { len = search rules; places = λ k h. rw (with_items_is v c.loop-byte.byte-items long) (c.loop-byte.invariant k (omega arith)) }
