@@ -22,8 +22,8 @@ pub fn send<L: Line>(
     command: Command,
 ) -> Result<Option<Reply>, AllocError>
     ensures { MatchResult result
-        (λ q. step line.old command q line.new × (sendings log.new ≡ sendings log.old ++ (command, q) ∷ []))
-        (λ _. (q : Option Reply) × step line.old command q line.new × (sendings log.new ≡ sendings log.old)) }
+        (λ q. L.step line.old command q line.new × (sendings log.new ≡ sendings log.old ++ (command, q) ∷ []))
+        (λ _. (q : Option Reply) × L.step line.old command q line.new × (sendings log.new ≡ sendings log.old)) }
 {
     let reply = line::issue(line, command);
     log.note(command, reply)?;
@@ -32,8 +32,8 @@ pub fn send<L: Line>(
 
 fn is_answered<L: Line>(line: &mut L, log: &mut Log, command: Command) -> Result<bool, AllocError>
     ensures { MatchResult result
-        (λ b. (q : Option Reply) × step line.old command q line.new × (sendings log.new ≡ sendings log.old ++ (command, q) ∷ []) × (is_some q ≡ b))
-        (λ _. (q : Option Reply) × step line.old command q line.new × (sendings log.new ≡ sendings log.old)) }
+        (λ b. (q : Option Reply) × L.step line.old command q line.new × (sendings log.new ≡ sendings log.old ++ (command, q) ∷ []) × (is_some q ≡ b))
+        (λ _. (q : Option Reply) × L.step line.old command q line.new × (sendings log.new ≡ sendings log.old)) }
 {
     Ok(send(line, log, command)?.is_some())
 }
@@ -41,8 +41,8 @@ fn is_answered<L: Line>(line: &mut L, log: &mut Log, command: Command) -> Result
 // Sends the commands in order, each once, up to the first that is not answered: whether all were.
 pub fn run<L: Line>(line: &mut L, log: &mut Log, commands: &[Command]) -> Result<bool, AllocError>
     ensures { MatchResult result
-        (λ b. Went step line.old (sendings log.old) line.new (sendings log.new) (Ran commands.now b))
-        (λ _. Broke step line.old (sendings log.old) line.new (sendings log.new)) }
+        (λ b. Went L.step line.old (sendings log.old) line.new (sendings log.new) (Ran commands.now b))
+        (λ _. Broke L.step line.old (sendings log.old) line.new (sendings log.new)) }
 {
     for command in commands {
         let answered = is_answered(line, log, *command)?;
@@ -62,8 +62,8 @@ fn is_status(reply: Option<Reply>) -> bool
 // Polls until an answer says status, or as often as it may: whether one did.
 pub fn poll_for_status<L: Line>(line: &mut L, log: &mut Log) -> Result<bool, AllocError>
     ensures { MatchResult result
-        (λ b. Went step line.old (sendings log.old) line.new (sendings log.new) (PolledUntil 32 b))
-        (λ _. Broke step line.old (sendings log.old) line.new (sendings log.new)) }
+        (λ b. Went L.step line.old (sendings log.old) line.new (sendings log.new) (PolledUntil 32 b))
+        (λ _. Broke L.step line.old (sendings log.old) line.new (sendings log.new)) }
 {
     for _ in 0..MOST_POLLS {
         if is_status(send(line, log, Command::Poll)?) {
@@ -75,8 +75,8 @@ pub fn poll_for_status<L: Line>(line: &mut L, log: &mut Log) -> Result<bool, All
 
 fn read<L: Line>(line: &mut L, log: &mut Log, place: u16) -> Result<Option<Reply>, AllocError>
     ensures { MatchResult result
-        (λ q. step line.old (Read place) q line.new × (sendings log.new ≡ sendings log.old ++ (Read place, q) ∷ []))
-        (λ _. (q : Option Reply) × step line.old (Read place) q line.new × (sendings log.new ≡ sendings log.old)) }
+        (λ q. L.step line.old (Read place) q line.new × (sendings log.new ≡ sendings log.old ++ (Read place, q) ∷ []))
+        (λ _. (q : Option Reply) × L.step line.old (Read place) q line.new × (sendings log.new ≡ sendings log.old)) }
 {
     send(line, log, Command::Read(place))
 }
