@@ -3,25 +3,26 @@ use line::command::PollAnswer;
 use line::tellable::Tellable;
 use line::telling::Tells;
 use lines::terminal::Terminal;
+use std::process::Abort;
 use std::test::*;
 use tca::field::{CUSYN, DAEV, DPASTAT, DPSSTAT};
 use tca::status::{Event, SynchronousStatus};
 
 // A terminal whose restart is acknowledged.
-fn awake(rt: &HostRuntime) -> Result<Terminal, Fail> {
+fn awake(rt: &(impl Abort + AllocGlobal)) -> Result<Terminal, Fail> {
     let mut terminal = Terminal::new(rt.alloc())?;
-    assert!(terminal.poll() == Some(PollAnswer::Reset));
-    assert!(terminal.acknowledge());
-    assert!(terminal.poll() == Some(PollAnswer::Clean));
+    assert!(rt; terminal.poll() == Some(PollAnswer::Reset));
+    assert!(rt; terminal.acknowledge());
+    assert!(rt; terminal.poll() == Some(PollAnswer::Clean));
     Ok(terminal)
 }
 
 // The same, with a request started by a first value of CUSYN.
-fn working(rt: &HostRuntime) -> Result<Terminal, Fail> {
+fn working(rt: &(impl Abort + AllocGlobal)) -> Result<Terminal, Fail> {
     let mut terminal = awake(rt)?;
-    assert!(terminal.write(CUSYN.address, 1));
-    assert!(terminal.start());
-    assert!(terminal.telling().taken == 1);
+    assert!(rt; terminal.write(CUSYN.address, 1));
+    assert!(rt; terminal.start());
+    assert!(rt; terminal.telling().taken == 1);
     Ok(terminal)
 }
 

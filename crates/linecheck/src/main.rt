@@ -13,6 +13,7 @@ use lines::terminal::Terminal;
 use script::Script;
 use std::alloc::{AllocError, Global};
 use std::io::Read;
+use tca::family::Synchronous;
 use tca::status::SynchronousStatus;
 
 // Sends what the script asks for: the status that the device posted, if it did and every command was answered.
@@ -29,7 +30,7 @@ fn exchange(
     if !poll_for_status(line, log)? || !run(line, log, &toggle_reads())? {
         return Ok(None);
     }
-    read_record::<tca::family::Synchronous, Terminal>(heap, line, log)
+    read_record::<Synchronous, Terminal>(heap, line, log)
 }
 
 fn check(rt: &HostRuntime) -> anyhow::Result<()> {

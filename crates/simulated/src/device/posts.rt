@@ -5,7 +5,7 @@ ghost use Rattle.simulated.specs.Posts.{free, with_event, with_end, with_expedit
 ghost use Rattle.simulated.specs.Simulated.{state_of, device_of};
 
 use crate::device::SimulatedDevice;
-use tca::family::Family;
+use tca::family::{Asynchronous, Expedited, Family, Synchronous};
 use tca::status::{Event, ExpeditedStatus, SynchronousStatus};
 
 // The record of a status, put at its places.
@@ -40,8 +40,8 @@ impl SimulatedDevice {
         ensures after { state_of self.new ≡ record { device = (if free dpastat (device_of self.old) then with_event event (device_of self.old) else device_of self.old); row = self.old.row } }
         ensures value { result ≡ free dpastat (device_of self.old) }
     {
-        if self.is_free::<tca::family::Asynchronous>() {
-            post::<tca::family::Asynchronous>(&mut self.memory, event);
+        if self.is_free::<Asynchronous>() {
+            post::<Asynchronous>(&mut self.memory, event);
             self.events = self.events.wrapping_add(1);
             true
         } else {
@@ -54,8 +54,8 @@ impl SimulatedDevice {
         ensures after { state_of self.new ≡ record { device = (if free dpsstat (device_of self.old) && self.old.working then with_end end (device_of self.old) else device_of self.old); row = self.old.row } }
         ensures value { result ≡ (free dpsstat (device_of self.old) && self.old.working) }
     {
-        if self.is_free::<tca::family::Synchronous>() && self.working {
-            post::<tca::family::Synchronous>(&mut self.memory, end);
+        if self.is_free::<Synchronous>() && self.working {
+            post::<Synchronous>(&mut self.memory, end);
             self.working = false;
             true
         } else {
@@ -68,8 +68,8 @@ impl SimulatedDevice {
         ensures after { state_of self.new ≡ record { device = (if free exfak (device_of self.old) then with_expedited status (device_of self.old) else device_of self.old); row = self.old.row } }
         ensures value { result ≡ free exfak (device_of self.old) }
     {
-        if self.is_free::<tca::family::Expedited>() {
-            post::<tca::family::Expedited>(&mut self.memory, status);
+        if self.is_free::<Expedited>() {
+            post::<Expedited>(&mut self.memory, status);
             self.expedited = self.expedited.wrapping_add(1);
             true
         } else {
