@@ -1,9 +1,9 @@
 -- Attach begins from a waiting restart, where all is as new.
-use Rattle.std.proofs.Common.{◌≡◌, ℕ, ◌+◌, ◌%◌, ◌^◌, ◌<◌, ◌≤◌, Bool, true, false, cond, ◌&&◌, eqb, List, [], ◌∷◌, length, get_or, Some, None, Ok, Option, sym, refl, ap, ◌∙◌, arith}
+use Rattle.std.proofs.Common.{◌≡◌, ℕ, ◌+◌, ◌<◌, ◌≤◌, Bool, true, false, cond, ◌&&◌, eqb, List, [], ◌∷◌, length, None, Ok, sym, refl, ap, ◌∙◌, arith}
 use borrow.Author.Tests.{clash}
 use Rattle.codes.specs.declared.number.Refusal.TheVariants.{NotConfigured}
 use Rattle.tca.specs.Fields.{dpastat, dpsstat, exfak, unit_half, terminal_places}
-use Rattle.tca.specs.Records.{cu_ready, request_bytes}
+use Rattle.tca.specs.Records.{cu_ready}
 use Rattle.line.specs.declared.command.Command.TheVariants.{Poll}
 use Rattle.line.specs.declared.command.PollAnswer.{PollAnswer}
 use Rattle.line.specs.declared.command.PollAnswer.TheVariants.{Reset as RestartWaits, Status, Clean as NoStatus}
@@ -13,7 +13,7 @@ use Rattle.line.specs.Posts.{put_row}
 use Rattle.line.proofs.Implied.{effect_new}
 use Rattle.line.proofs.Rows.{row_length, row_other}
 use Rattle.procedures.specs.Procedure.{said, rising}
-use Rattle.procedures.specs.Leaves.{effects, Made, Leaves}
+use Rattle.procedures.specs.Leaves.{effects, Leaves}
 use Rattle.procedures.proofs.Left.{effects_length}
 use Rattle.procedures.proofs.Rows.{with_memory, writes_leave, rising_from}
 use Rattle.ports.specs.declared.port.Work.TheVariants.{Active as IsActive}
@@ -23,11 +23,10 @@ use Rattle.ports.specs.declared.port.Port.{Port}
 use Rattle.ports.specs.Port.{no_marks}
 use Rattle.ports.specs.Refusals.{refuse_if, or_else, if_disconnected}
 use Rattle.ports.specs.Terminals.{none_configured}
-use Rattle.ports.specs.Sendings.{zeros, sets_up, attaches, attaches_by, starts}
+use Rattle.ports.specs.Sendings.{zeros, sets_up, attaches, attaches_by}
 use Rattle.ports.specs.Calls.{attach_call, attach_answer, attached_after}
 use Rattle.ports.specs.Asked.{attach}
 use Rattle.counts.specs.Tally.{Tally, count_all, tells, lost_by, attached, accepted}
-use Rattle.counts.proofs.Live.{Live, one_if}
 use Rattle.counts.proofs.Invariant.{Own, Sound, Inv, Went, Broke}
 use Rattle.ports.proofs.Refused.{passes}
 use Rattle.counts.proofs.Starts.{starts_leave, start_live, prepared}

@@ -1,27 +1,24 @@
 -- From one call to all of a run, and from what is kept to what the law says.
-use Rattle.std.proofs.Common.{◌≡◌, ℕ, zero, suc, ◌+◌, ◌%◌, ◌^◌, ◌<◌, ◌≤◌, Bool, true, false, not, eqb, ◌⊎◌, ◌↔◌, List, [], ◌∷◌, get_or, replicate, Some, None, Option, sym, refl, ap, ◌∙◌, subst, inl, inr, arith, ne_eqb, eqb-true}
+use Rattle.std.proofs.Common.{◌≡◌, ℕ, zero, suc, ◌+◌, ◌%◌, ◌^◌, ◌≤◌, Bool, true, false, not, eqb, List, [], replicate, None, sym, refl, ap, subst, inl, inr, arith, eqb-true}
 use borrow.Author.Tests.{eqb-false, clash}
 use Rattle.codes.specs.declared.attachment.Attachment.{Attachment}
-use Rattle.codes.specs.declared.number.Refusal.{Refusal}
 use Rattle.codes.specs.declared.number.Refusal.TheVariants.{PortTooHigh, EqualTerminals}
 use Rattle.tca.specs.Fields.{dpastat, exfak}
 use Rattle.line.specs.State.{Device, State, at}
 use Rattle.line.specs.Rules.{Lawful}
-use Rattle.ports.specs.declared.port.Work.{Work}
-use Rattle.ports.specs.declared.port.Work.TheVariants.{Idle as IsIdle, Active as IsActive}
 use Rattle.ports.specs.declared.port.Connection.{Connection}
 use Rattle.ports.specs.declared.port.PortState.{PortState}
 use Rattle.ports.specs.declared.port.PortState.TheVariants.{Disconnected as IsDisconnected, Connected}
 use Rattle.ports.specs.declared.port.Port.{Port}
-use Rattle.ports.specs.Port.{new_port, is_working, is_active, held}
+use Rattle.ports.specs.Port.{new_port, is_working, held}
 use Rattle.ports.specs.Refusals.{if_disconnected}
 use Rattle.ports.specs.Terminals.{some_equal}
 use Rattle.ports.specs.Call.{Outcome}
 use Rattle.ports.specs.Asked.{Asked, AnswerTo, call, configure, attach, poll, request, collect, take, expedite, fetch, drop}
-use Rattle.ports.specs.Frame.{Called, port_at}
-use Rattle.counts.specs.Tally.{Tally, Entry, called, turned, tells, lost_by, count_all, count_if, tally}
+use Rattle.ports.specs.Frame.{port_at}
+use Rattle.counts.specs.Tally.{Tally, Entry, tells, lost_by, count_all, count_if, tally}
 use Rattle.counts.specs.Run.{Lines, Step, Run, new, calls, turns}
-use Rattle.counts.specs.Law.{Level, LevelWrapped, ConnectedAgrees, Agrees, standing_of, CountsAgree}
+use Rattle.counts.specs.Law.{Level, LevelWrapped, ConnectedAgrees, Agrees, CountsAgree}
 use Rattle.counts.proofs.Live.{one_if}
 use Rattle.counts.proofs.Invariant.{Own, Sound, Inv, left_keeps, call_keeps}
 use Rattle.ports.proofs.Refused.{passes}

@@ -1,9 +1,8 @@
 -- What holds of a port and its device after every call, and how a call keeps it.
-use Rattle.std.proofs.Common.{◌≡◌, ℕ, ◌+◌, ◌%◌, ◌^◌, ◌≤◌, Bool, true, false, List, [], ◌∷◌, Some, None, Ok, Err, Option, Result, sym, refl, ap, ◌∙◌, arith}
+use Rattle.std.proofs.Common.{◌≡◌, ◌+◌, ◌%◌, ◌^◌, ◌≤◌, true, List, [], Some, None, Ok, Err, Option, Result, refl, arith}
 use Rattle.codes.specs.declared.number.Refusal.{Refusal}
 use Rattle.tca.specs.Fields.{dpastat, dpsstat, exfak}
 use Rattle.tca.specs.Records.{request_bytes}
-use Rattle.tca.specs.declared.request.Request.{Request}
 use Rattle.line.specs.State.{Device, State, at, Choice}
 use Rattle.procedures.specs.declared.silence.Silence.{Silence}
 use Rattle.procedures.specs.Performed.{performed}

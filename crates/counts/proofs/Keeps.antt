@@ -1,23 +1,19 @@
 -- Each call keeps, at its port, what the law says and what the next call needs.
-use Rattle.std.proofs.Common.{◌≡◌, ℕ, zero, suc, ◌+◌, ◌-◌, ◌%◌, ◌^◌, ◌<◌, ◌≤◌, Bool, true, false, cond, not, ◌&&◌, ◌||◌, eqb, ltb, ◌⊎◌, List, [], ◌∷◌, length, get_or, set, Some, None, Ok, Err, Option, sym, refl, ap, ◌∙◌, inl, inr, arith, length-set, get_or-set_other, get_or-set_same, ltb-false, ne_eqb, eqb-true}
+use Rattle.std.proofs.Common.{◌≡◌, ℕ, zero, suc, ◌+◌, ◌-◌, ◌%◌, ◌^◌, ◌<◌, ◌≤◌, Bool, true, false, not, ◌&&◌, eqb, ltb, List, ◌∷◌, length, get_or, set, Some, None, Ok, sym, refl, ap, ◌∙◌, arith, get_or-set_other, get_or-set_same, ltb-false, ne_eqb, eqb-true}
 use borrow.Author.Tests.{clash}
 use Rattle.codes.specs.declared.attachment.Attachment.{Attachment}
-use Rattle.codes.specs.declared.number.Refusal.{Refusal}
 use Rattle.codes.specs.declared.number.Refusal.TheVariants.{NotMarked, ExpeditedFirst}
 use Rattle.tca.specs.Fields.{dpastat, dpsstat, exfak, response_places, event_places, expedited_places, synchronous_places, data_area}
-use Rattle.tca.specs.Records.{request_bytes, event_of, synchronous_of, expedited_of}
+use Rattle.tca.specs.Records.{request_bytes, event_of}
 use Rattle.tca.specs.declared.request.Request.{Request}
 use Rattle.line.specs.State.{Device, State, Choice, at}
 use Rattle.line.specs.Rules.{is_in, started}
 use Rattle.line.specs.Posts.{put_row}
-use Rattle.line.proofs.Rows.{row_length, row_other}
-use Rattle.procedures.specs.declared.silence.Silence.{Silence}
+use Rattle.line.proofs.Rows.{row_other}
 use Rattle.procedures.specs.Procedure.{rising}
 use Rattle.procedures.specs.Leaves.{Leaves}
-use Rattle.procedures.proofs.Rows.{with_memory, read_leaves, write_leaves, reads_leave, writes_leave, rising_from}
+use Rattle.procedures.proofs.Rows.{with_memory, write_leaves, reads_leave, writes_leave, rising_from}
 use Rattle.ports.specs.declared.port.Marks.{Marks}
-use Rattle.ports.specs.declared.port.Work.{Work}
-use Rattle.ports.specs.declared.port.Work.TheVariants.{Idle as IsIdle, Active as IsActive}
 use Rattle.ports.specs.declared.port.Connection.{Connection}
 use Rattle.ports.specs.declared.port.PortState.{PortState}
 use Rattle.ports.specs.declared.port.PortState.TheVariants.{Disconnected as IsDisconnected, Connected}
@@ -26,11 +22,11 @@ use Rattle.ports.specs.declared.seen.Seen.{Seen}
 use Rattle.ports.specs.declared.seen.Seen.TheVariants.{Restart, Clean, Bad, Toggles}
 use Rattle.ports.specs.declared.verdict.Verdict.{Verdict}
 use Rattle.ports.specs.declared.verdict.Verdict.TheVariants.{NotAllowed, Allowed, PermanentError}
-use Rattle.ports.specs.Port.{is_working, is_active, held, held_by, no_marks, with_marks, without_expedited, without_ended, without_asynchronous, next_cusyn, change_state}
-use Rattle.ports.specs.Refusals.{refuse_if, or_else, if_connected, refuse_connected, outside, refuse_request, refuse_fetch, refuse_collect, refuse_take, refuse_expedite, nothing_else}
-use Rattle.ports.specs.Sendings.{polls, requests, collects, takes, settles, expedites, fetches}
-use Rattle.ports.specs.Calls.{with_collected, with_event, with_request, poll_answer, polled_after, take_by, judged, taken_after, poll_call, request_call, collect_call, take_call, expedite_call, fetch_call, drop_call, configure_call}
-use Rattle.ports.specs.Asked.{poll, request, collect, take, expedite, fetch, drop, configure}
+use Rattle.ports.specs.Port.{is_working, held_by, no_marks, with_marks, without_expedited, next_cusyn, change_state}
+use Rattle.ports.specs.Refusals.{refuse_if, or_else, if_connected, outside, refuse_request, refuse_collect, refuse_take, refuse_expedite, nothing_else}
+use Rattle.ports.specs.Sendings.{polls, requests, collects, settles, expedites}
+use Rattle.ports.specs.Calls.{with_collected, with_event, with_request, poll_answer, polled_after, take_by, judged, taken_after, poll_call, request_call, collect_call, take_call, expedite_call, fetch_call}
+use Rattle.ports.specs.Asked.{poll, request, collect, take, expedite, fetch}
 use Rattle.counts.specs.Tally.{Tally, count, count_all, tells, lost_by, event_handed, expedited_handed, collected, accepted}
 use Rattle.counts.specs.Law.{standing_by}
 use Rattle.counts.proofs.Live.{Live, one_if, poll_live}
@@ -38,7 +34,7 @@ use Rattle.counts.proofs.Invariant.{Own, Sound, Inv, left_keeps, lost_keeps, Wen
 use Rattle.ports.proofs.Refused.{passes, is_connected, or_false, request_not_refused}
 use Rattle.counts.proofs.Statuses.{PastToggles, rows_live, event_live, expedited_live}
 use Rattle.counts.proofs.Starts.{starts_leave, start_live, prepared}
-use Rattle.counts.proofs.Looks.{Saw, polls_leave}
+use Rattle.counts.proofs.Looks.{polls_leave}
 
 impossible : {A B : Type 0} (x : A) → Some x ≡ None → B
 impossible x e = let z : ◌≡◌ {A = ℕ} 0 1 = cc in absurd (omega arith)

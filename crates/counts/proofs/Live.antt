@@ -1,10 +1,10 @@
 -- What the device's own acts keep, while no restart waits.
-use Rattle.std.proofs.Common.{◌≡◌, ℕ, ◌+◌, ◌%◌, ◌^◌, ◌<◌, ◌≤◌, Bool, true, false, cond, not, ◌&&◌, eqb, ◌⊎◌, List, [], ◌∷◌, length, sym, refl, ap, ◌∙◌, inl, inr, arith, eqb-true}
+use Rattle.std.proofs.Common.{◌≡◌, ℕ, ◌+◌, ◌%◌, ◌^◌, ◌≤◌, Bool, true, false, cond, not, ◌&&◌, eqb, ◌⊎◌, List, [], ◌∷◌, length, sym, refl, inl, inr, arith, eqb-true}
 use borrow.Author.Tests.{clash}
 use Rattle.tca.specs.Fields.{dpastat, dpsstat, exfak}
 use Rattle.line.specs.declared.command.Command.TheVariants.{Poll}
 use Rattle.line.specs.State.{Device, Choice, at}
-use Rattle.line.specs.Rules.{act, ran, restarted, counted, posts_event, posts_end, posts_expedited, byte_after, remake}
+use Rattle.line.specs.Rules.{act, ran, posts_event, posts_end, posts_expedited, byte_after}
 use Rattle.line.proofs.Memory.{remake_length, remake_at}
 use Rattle.procedures.specs.Leaves.{effects, Made}
 

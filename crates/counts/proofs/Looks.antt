@@ -1,13 +1,12 @@
 -- What a poll that went through saw.
-use Rattle.std.proofs.Common.{◌≡◌, ℕ, ◌≤◌, Bool, true, false, cond, ◌&&◌, eqb, ltb, ◌⊎◌, List, [], ◌∷◌, sym, refl, ap, ◌∙◌, inl, inr, arith, ltb-false, eqb-true}
-use borrow.Author.Tests.{clash}
+use Rattle.std.proofs.Common.{◌≡◌, ℕ, ◌≤◌, Bool, true, false, cond, ◌&&◌, eqb, ltb, ◌⊎◌, sym, refl, ap, ◌∙◌, inl, inr, arith, ltb-false, eqb-true}
 use Rattle.tca.specs.Fields.{dpastat, dpsstat, exfak}
 use Rattle.line.specs.declared.command.Command.TheVariants.{Poll}
 use Rattle.line.specs.declared.command.PollAnswer.{PollAnswer}
 use Rattle.line.specs.declared.command.PollAnswer.TheVariants.{Reset as RestartWaits, Status, Clean as NoStatus}
 use Rattle.line.specs.State.{Device, State, at}
 use Rattle.line.specs.Rules.{says}
-use Rattle.procedures.specs.Procedure.{Procedure, said, either}
+use Rattle.procedures.specs.Procedure.{Procedure, either}
 use Rattle.procedures.specs.Leaves.{Made, Leaves}
 use Rattle.procedures.proofs.Rows.{read_leaves}
 use Rattle.ports.specs.declared.seen.Seen.{Seen}

@@ -1,11 +1,11 @@
 -- A start that a device at rest hears is taken once.
-use Rattle.std.proofs.Common.{◌≡◌, ℕ, ◌+◌, ◌%◌, ◌^◌, ◌<◌, ◌≤◌, Bool, true, false, ◌&&◌, eqb, ◌≢◌, List, [], ◌∷◌, length, get_or, set, sym, refl, ap, ◌∙◌, arith, length-set, get_or-set_other, get_or-set_same, ne_eqb}
+use Rattle.std.proofs.Common.{◌≡◌, ℕ, ◌+◌, ◌%◌, ◌^◌, ◌≤◌, true, false, eqb, ◌≢◌, List, length, get_or, set, sym, refl, ap, ◌∙◌, arith, length-set, get_or-set_other, get_or-set_same, ne_eqb}
 use borrow.Author.Tests.{clash}
 use Rattle.tca.specs.Fields.{dpastat, dpsstat, exfak, cusyn, request_places}
 use Rattle.tca.specs.Records.{request_bytes}
 use Rattle.tca.specs.declared.request.Request.{Request}
 use Rattle.line.specs.State.{Device, State, Choice, at}
-use Rattle.line.specs.Rules.{is_in, started, took, bytes_at}
+use Rattle.line.specs.Rules.{is_in, started, took}
 use Rattle.line.specs.Posts.{put_row}
 use Rattle.line.proofs.Rows.{row_length, row_other, row_read, read_row, read_same}
 use Rattle.procedures.specs.Leaves.{Leaves}

@@ -1,12 +1,12 @@
 -- What writing leaves of a device at a connected port: rows past the toggles, and a status that is acknowledged.
-use Rattle.std.proofs.Common.{◌≡◌, ℕ, ◌+◌, ◌%◌, ◌^◌, ◌<◌, ◌≤◌, Bool, true, false, ◌&&◌, eqb, List, [], ◌∷◌, length, get_or, set, sym, refl, ap, ◌∙◌, arith, length-set, get_or-set_other, get_or-set_same}
+use Rattle.std.proofs.Common.{◌≡◌, ℕ, ◌+◌, ◌%◌, ◌^◌, Bool, false, List, get_or, set, arith, length-set, get_or-set_other, get_or-set_same}
 use Rattle.tca.specs.Fields.{dpastat, dpsstat, exfak}
 use Rattle.line.specs.State.{Device, at}
 use Rattle.line.specs.Rules.{is_in}
 use Rattle.line.specs.Posts.{put_row}
 use Rattle.line.proofs.Rows.{row_length, row_other}
 use Rattle.procedures.proofs.Rows.{with_memory}
-use Rattle.counts.proofs.Live.{Live, one_if}
+use Rattle.counts.proofs.Live.{Live}
 
 -- a row without the toggles
 pub record PastToggles (ps : List ℕ) : Type 0 where

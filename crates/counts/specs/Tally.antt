@@ -1,8 +1,7 @@
 -- The counts of a port, read off a list of calls with their answers.
-use Rattle.std.specs.Prelude.{ℕ, ◌+◌, Bool, true, false, List, [], ◌∷◌, ◌++◌, Some, None, Option, ◌==◌}
+use Rattle.std.specs.Prelude.{ℕ, ◌+◌, Bool, true, false, List, [], ◌∷◌, Some, None, Option, ◌==◌}
 use Rattle.tca.specs.declared.request.Request.{Request}
 use Rattle.tca.specs.Records.{cu_ready}
-use Rattle.ports.specs.declared.disconnection.Disconnection.{Disconnection}
 use Rattle.ports.specs.declared.answers.Configured.TheVariants.{Refused as configure_refused, Set}
 use Rattle.ports.specs.declared.answers.Attached.TheVariants.{Refused as attach_refused, Accepted as attach_accepted, NotWaiting, Disconnected as attach_broken}
 use Rattle.ports.specs.declared.answers.Polled.TheVariants.{Refused as poll_refused, Marked, Disconnected as poll_broken}

@@ -16,7 +16,7 @@ use Rattle.losing.specs.declared.losing.Losing.{Losing}
 use Rattle.losing.specs.Losses.{keeps_over, lawful_over, determined_over}
 use Rattle.hallline.specs.declared.HallLine.{HallLine}
 use Rattle.hallline.specs.declared.HallLine.TheVariants.{Terminal, Printer, LosingTerminal, LosingPrinter}
-use Rattle.hallline.specs.Hall.{state, Within, LosingSteps, Steps, own, shows, next, answers, terminal, printer, losing_terminal, losing_printer}
+use Rattle.hallline.specs.Hall.{state, Within, Steps, own, shows, next, answers, terminal, printer, losing_terminal, losing_printer}
 
 -- what holds of each kind holds of what relates only lines of one kind
 module _ {T : TerminalLine → TerminalLine → Type 0} {P : PrinterLine → PrinterLine → Type 0} {Lt : Losing TerminalLine → Losing TerminalLine → Type 0} {LP : Losing PrinterLine → Losing PrinterLine → Type 0}

@@ -1,13 +1,12 @@
 -- What the rules imply, by cases on the command.
-use Rattle.std.proofs.Common.{◌≡◌, ℕ, ◌+◌, ◌%◌, ◌^◌, ◌<◌, ◌≤◌, min, Bool, true, false, cond, ◌&&◌, ◌||◌, eqb, ltb, leb, List, length, get_or, set, Option, sym, refl, ap, ◌∙◌, arith, length-set, get_or-set_other, get_or-set_same, set-set, eq-eqb, eqb-true}
+use Rattle.std.proofs.Common.{◌≡◌, ℕ, ◌+◌, ◌%◌, ◌^◌, ◌<◌, ◌≤◌, min, Bool, true, false, cond, ◌&&◌, ◌||◌, eqb, ltb, List, length, get_or, set, sym, refl, ap, ◌∙◌, arith, length-set, get_or-set_other, get_or-set_same, set-set, eq-eqb, eqb-true}
 use borrow.Author.Tests.{clash, eqb-false}
-use Rattle.tca.specs.Fields.{dpastat, dpsstat, exfak, cusyn, unit_half, response_places}
+use Rattle.tca.specs.Fields.{dpastat, dpsstat, exfak, cusyn}
 use Rattle.line.specs.declared.command.Command.{Command}
 use Rattle.line.specs.declared.command.Command.TheVariants.{Poll, Read, Write, Start, Acknowledge, TerminalId, Reset}
-use Rattle.line.specs.declared.command.Reply.{Reply}
 use Rattle.line.specs.State.{Device, State, Passage, answered, unheard, unanswered, Choice, at}
-use Rattle.line.specs.Rules.{Permitted, Lawful, New, effect, hears, fate, device_after, row_after, act, ran, restarted, started, start_by, took, written, may_write, is_toggle, is_in, remake, byte_after, posts_event, posts_end, posts_expedited}
-use Rattle.line.specs.Laws.{RulesKeepWhatAlwaysHolds, SizeIsFixed, RepeatedCommandDoesNothingMore, repeatable}
+use Rattle.line.specs.Rules.{Lawful, New, effect, hears, fate, device_after, row_after, act, ran, restarted, started, start_by, written, may_write, is_toggle, byte_after, posts_event, posts_end, posts_expedited}
+use Rattle.line.specs.Laws.{RulesKeepWhatAlwaysHolds, SizeIsFixed, RepeatedCommandDoesNothingMore}
 use Rattle.line.proofs.Memory.{remake_length, remake_at}
 
 -- the size

@@ -1,6 +1,6 @@
 -- A device whose program posts statuses of any of the three families, and does nothing else, keeps the
 -- rules.
-use Rattle.std.proofs.Common.{◌≡◌, ℕ, ◌+◌, ◌%◌, ◌^◌, ◌<◌, ◌≤◌, Bool, true, false, cond, not, ◌&&◌, eqb, List, ◌∷◌, length, get_or, set, sym, refl, ap, ◌∙◌, arith, length-set, get_or-set_other, get_or-set_same, ne_eqb}
+use Rattle.std.proofs.Common.{◌≡◌, ℕ, ◌+◌, ◌%◌, ◌^◌, ◌<◌, ◌≤◌, Bool, true, false, cond, ◌&&◌, eqb, List, ◌∷◌, length, get_or, sym, refl, ap, ◌∙◌, arith, length-set, get_or-set_other, get_or-set_same, ne_eqb}
 use borrow.Author.Tests.{clash, eqb-false}
 use Rattle.tca.specs.Fields.{dpastat, dpsstat, exfak, event_places, synchronous_places, expedited_places, unit_half, data_area}
 use Rattle.line.specs.State.{Device, Choice, answered, at}

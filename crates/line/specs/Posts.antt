@@ -1,5 +1,5 @@
 -- What it is to post a status: its record is put into place, byte by byte, and its toggle set to X'01'.
-use Rattle.std.specs.Prelude.{ℕ, List, [], ◌∷◌, set, slice_set}
+use Rattle.std.specs.Prelude.{ℕ, List, [], ◌∷◌, slice_set}
 
 -- memory with bytes put at the addresses of a row, in its order
 abbrev pub put_row : List ℕ → List ℕ → List ℕ → List ℕ

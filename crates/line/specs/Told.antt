@@ -1,5 +1,5 @@
 -- The state that a telling shows.
-use Rattle.line.specs.State.{Device, State}
+use Rattle.line.specs.State.{State}
 use Rattle.line.specs.declared.telling.Telling.{Telling}
 
 abbrev pub told : Telling → State

@@ -1,6 +1,6 @@
 -- The printer line keeps the rules: at a Poll its choice is to post the end and the report that are due,
 -- where it may.
-use Rattle.std.specs.Prelude.{◌≡◌, ℕ, ◌+◌, ◌%◌, ◌^◌, ◌≤◌, Bool, true, false, cond, not, ◌&&◌, List, [], length, Some, Option, ◌==◌, refl}
+use Rattle.std.specs.Prelude.{◌≡◌, ℕ, ◌≤◌, Bool, true, false, cond, not, ◌&&◌, List, [], length, Some, Option, ◌==◌, refl}
 use Rattle.std.proofs.Common.{sym, ◌∙◌, ap}
 use Rattle.tca.specs.Fields.{dpastat, dpsstat, exfak, synchronous_places}
 use Rattle.tca.specs.Records.{expedited_bytes, synchronous_bytes}
@@ -11,11 +11,11 @@ use Rattle.line.specs.declared.command.Command.TheVariants.{Poll, Read, Write, S
 use Rattle.line.specs.declared.command.Reply.{Reply}
 use Rattle.line.specs.declared.command.Reply.TheVariants.{Polled}
 use Rattle.line.specs.State.{Device, State, at}
-use Rattle.line.specs.Rules.{Permitted, act, posts_end, posts_event, posts_expedited, says}
+use Rattle.line.specs.Rules.{Permitted, act, says}
 use Rattle.lines.specs.declared.printer.Printer.{Printer}
 use Rattle.simulated.specs.Posts.{free, with_end, with_expedited}
 use Rattle.simulated.specs.Simulated.{obliging, state_of}
-use Rattle.lines.specs.Printer.{Own, own, Steps, polled, over, ends_now, device_ended, due_now, reports_now}
+use Rattle.lines.specs.Printer.{Own, own, Steps, polled, over, ends_now, due_now, reports_now}
 use Rattle.line.proofs.Posting.{if_other, choice, after_posts, acts, never}
 
 -- a flag of the program's own beside what the rules ask

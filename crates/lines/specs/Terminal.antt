@@ -1,6 +1,6 @@
 -- What the terminal line does: its own state after each command, and its answer, as functions of its own
 -- state.
-use Rattle.std.specs.Prelude.{◌≡◌, Bool, cond, ◌&&◌, Some, None, Option}
+use Rattle.std.specs.Prelude.{◌≡◌, cond, ◌&&◌, Some, None, Option}
 use Rattle.tca.specs.Fields.{dpastat, dpsstat}
 use Rattle.tca.specs.declared.status.Event.{Event}
 use Rattle.tca.specs.declared.status.SynchronousStatus.{SynchronousStatus}

@@ -11,12 +11,12 @@ use Rattle.line.specs.declared.command.Command.TheVariants.{Poll, Read, Write, S
 use Rattle.line.specs.declared.command.Reply.{Reply}
 use Rattle.line.specs.declared.command.Reply.TheVariants.{Polled}
 use Rattle.line.specs.State.{Device, State, at}
-use Rattle.line.specs.Rules.{Permitted, act, posts_event, posts_end, posts_expedited, says}
+use Rattle.line.specs.Rules.{Permitted, act, posts_event, posts_end, says}
 use Rattle.lines.specs.declared.terminal.Terminal.{Terminal}
 use Rattle.simulated.specs.Posts.{free, with_event, with_end}
-use Rattle.simulated.specs.Simulated.{obliging, device_of, state_of}
+use Rattle.simulated.specs.Simulated.{obliging, state_of}
 use Rattle.lines.specs.Terminal.{Own, own, Steps, post_event, post_end, polled}
-use Rattle.line.proofs.Posting.{post_if, if_other, choice, after_posts, acts, never}
+use Rattle.line.proofs.Posting.{post_if, if_other, choice, acts, never}
 
 -- whether it posts, and the bytes
 

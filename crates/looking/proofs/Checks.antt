@@ -1,5 +1,5 @@
 -- Reading one toggle: a bad one ends in a Reset, another goes on.
-use Rattle.std.proofs.Common.{◌≡◌, ℕ, ◌<◌, ◌≤◌, ltb, Ok, Result, le-ltb, lt-ltb}
+use Rattle.std.proofs.Common.{ℕ, ◌<◌, ◌≤◌, ltb, Ok, Result, le-ltb, lt-ltb}
 use Rattle.procedures.specs.declared.silence.Silence.{Silence}
 use Rattle.procedures.specs.Procedure.{Procedure, reads}
 use Rattle.procedures.specs.Performs.{Step, Performs}

@@ -1,15 +1,15 @@
 -- A losing line keeps the rules over any line that does, and leaves no choice over a line that has none.
-use Rattle.std.specs.Prelude.{◌≡◌, ℕ, ◌+◌, ◌≤◌, min, Bool, true, false, cond, List, [], Some, None, Option}
+use Rattle.std.specs.Prelude.{◌≡◌, ℕ, ◌+◌, ◌≤◌, min, Bool, true, false, cond, List, [], None, Option}
 use Rattle.std.proofs.Math.Path.{refl, ap}
 use Rattle.std.proofs.Common.{sym, ◌∙◌}
 use Rattle.line.specs.declared.command.Command.{Command}
 use Rattle.line.specs.declared.command.Reply.{Reply}
 use Rattle.line.specs.State.{Device, State, Passage, answered, unheard, unanswered, Choice}
 use Rattle.line.specs.declared.command.Command.TheVariants.{Poll, Read, Write, Start, Acknowledge, TerminalId, Reset}
-use Rattle.line.specs.Rules.{act, started, Permitted, Lawful, after, answer, fate, hears, effect, reply, device_after, row_after, answer_by}
+use Rattle.line.specs.Rules.{act, started, Permitted, Lawful, fate, hears, effect, reply, device_after, row_after, answer_by}
 use Rattle.losing.specs.declared.mark.Mark.{Mark}
 use Rattle.losing.specs.declared.mark.Mark.TheVariants.{Passes, Unheard, Unanswered}
-use Rattle.losing.specs.Loss.{Lost, Loses, row_by, told_over, mark_at, turned, OwnOver, below_after, answer_through, next_over, answers_over}
+use Rattle.losing.specs.Loss.{Lost, Loses, row_by, told_over, mark_at, OwnOver, below_after, answer_through, next_over, answers_over}
 
 pub lawful_over : (t : State) (n : ℕ) → n ≤ 255 → Lawful t → Lawful (told_over t n)
 lawful_over t n h l = record {

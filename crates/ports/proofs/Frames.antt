@@ -1,14 +1,14 @@
 -- From a call on one port to the table.
-use Rattle.std.proofs.Common.{◌≡◌, ℕ, zero, suc, ◌<◌, ◌≤◌, List, [], ◌∷◌, length, get_or, set, sym, refl, ◌∙◌, subst, inl, inr, le_of_suc-le-suc, not-suc-le-zero, length-set, get_or-set_other, get_or-set_same}
+use Rattle.std.proofs.Common.{◌≡◌, ℕ, zero, suc, ◌<◌, ◌≤◌, List, [], ◌∷◌, length, get_or, set, refl, subst, inl, inr, le_of_suc-le-suc, not-suc-le-zero, length-set, get_or-set_other, get_or-set_same}
 use Rattle.codes.specs.declared.attachment.Attachment.{Attachment}
 use Rattle.codes.specs.declared.number.Refusal.TheVariants.{PortTooHigh}
 use Rattle.line.specs.State.{State}
 use Rattle.procedures.specs.Performs.{Step}
 use Rattle.ports.specs.declared.port.Port.{Port}
 use Rattle.ports.specs.Port.{new_port}
-use Rattle.ports.specs.Call.{Call, Outcome, Done}
+use Rattle.ports.specs.Call.{Outcome, Done}
 use Rattle.ports.specs.Asked.{Asked, AnswerTo, call}
-use Rattle.ports.specs.Frame.{Here, Called, DoneAt, port_at}
+use Rattle.ports.specs.Frame.{Here, DoneAt, port_at}
 
 -- the table with one record changed
 pub here : (m : Attachment) (p : ℕ) (q : Asked) (ks : List Port) (t : State) (a : AnswerTo q) (k' : Port) (t' : State) → p < length ks → Outcome (call m q (port_at ks p) t) (port_at ks p) t a k' t' → Here m p q ks t a (set ks p k') t'

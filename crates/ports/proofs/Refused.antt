@@ -1,5 +1,5 @@
 -- What holds where a call is not refused.
-use Rattle.std.proofs.Common.{◌≡◌, ℕ, zero, suc, ◌+◌, ◌<◌, ◌≤◌, Bool, true, false, not, ◌&&◌, ◌||◌, eqb, ltb, List, Some, None, Option, sym, refl, arith, ltb-false, ne_eqb}
+use Rattle.std.proofs.Common.{◌≡◌, ℕ, zero, suc, ◌+◌, ◌≤◌, Bool, true, false, ◌||◌, eqb, ltb, List, Some, None, Option, sym, refl, arith, ltb-false, ne_eqb}
 use borrow.Author.Tests.{clash}
 use Rattle.codes.specs.declared.number.Refusal.{Refusal}
 use Rattle.codes.specs.declared.number.Refusal.TheVariants.{NotConfigured, NotIdle, DataOutside}

@@ -1,7 +1,6 @@
 -- The calls, each on one port and one line.
-use Rattle.std.specs.Prelude.{ℕ, ◌-◌, Bool, true, false, cond, ◌&&◌, List, [], ◌∷◌, ◌++◌, length, drop, Some, None, Ok, Err, Option, Result, ◌==◌}
+use Rattle.std.specs.Prelude.{ℕ, ◌-◌, Bool, true, false, ◌&&◌, List, ◌++◌, length, drop, Some, None, Ok, Err, Option, Result, ◌==◌}
 use Rattle.codes.specs.declared.attachment.Attachment.{Attachment}
-use Rattle.codes.specs.declared.number.Refusal.{Refusal}
 use Rattle.codes.specs.declared.number.Ending.{Ending}
 use Rattle.codes.specs.declared.number.Ending.TheVariants.{Silence as Silent, BadToggle, DeviceReset, EventNotAllowed, PermanentError as Permanent, Dropped as ByHost}
 use Rattle.tca.specs.Fields.{dpastat, daltad}
@@ -14,11 +13,9 @@ use Rattle.procedures.specs.declared.silence.Silence.{Silence}
 use Rattle.procedures.specs.declared.silence.CommandKind.{CommandKind}
 use Rattle.procedures.specs.declared.silence.CommandKind.TheVariants.{Poll as APoll, Read as ARead, Write as AWrite}
 use Rattle.procedures.specs.Procedure.{gives, rising}
-use Rattle.ports.specs.declared.port.Marks.{Marks}
 use Rattle.ports.specs.declared.port.Work.TheVariants.{Idle, Active}
 use Rattle.ports.specs.declared.port.Connection.{Connection}
-use Rattle.ports.specs.declared.port.PortState.{PortState}
-use Rattle.ports.specs.declared.port.PortState.TheVariants.{Disconnected, Connected}
+use Rattle.ports.specs.declared.port.PortState.TheVariants.{Connected}
 use Rattle.ports.specs.declared.port.Port.{Port}
 use Rattle.ports.specs.declared.disconnection.Disconnection.{Disconnection}
 use Rattle.ports.specs.declared.seen.Seen.{Seen}
@@ -47,7 +44,7 @@ use Rattle.ports.specs.Port.{no_marks, held, is_active, online, next_cusyn, chan
 use Rattle.ports.specs.Events.{judge}
 use Rattle.ports.specs.Refusals.{refuse_configure, refuse_attach, refuse_connected, nothing_else, refuse_request, refuse_fetch, refuse_collect, refuse_take, refuse_expedite}
 use Rattle.ports.specs.Sendings.{attaches, polls, requests, collects, takes, expedites, fetches, drops}
-use Rattle.ports.specs.Call.{Call, Outcome}
+use Rattle.ports.specs.Call.{Call}
 
 -- A disconnection tells its cause, the last command with its address, and the request that is lost.
 abbrev pub broken_by : Silence → Option Request → Disconnection

@@ -6,7 +6,7 @@ use Rattle.line.specs.State.{State}
 use Rattle.ports.specs.declared.port.Port.{Port}
 use Rattle.ports.specs.Port.{new_port}
 use Rattle.procedures.specs.Performs.{Step}
-use Rattle.ports.specs.Call.{Call, Outcome, Commands}
+use Rattle.ports.specs.Call.{Outcome, Commands}
 use Rattle.ports.specs.Asked.{Asked, AnswerTo, call}
 
 -- the record of a port, by its number

@@ -1,5 +1,5 @@
 -- A port's record: as it is at first, what it holds, and what becomes of it.
-use Rattle.std.specs.Prelude.{◌≡◌, ℕ, ◌-◌, Bool, true, false, List, [], ◌∷◌, Some, None, Option}
+use Rattle.std.specs.Prelude.{ℕ, ◌-◌, Bool, true, false, [], ◌∷◌, Some, None, Option}
 use Rattle.tca.specs.declared.request.Request.{Request}
 use Rattle.ports.specs.declared.port.Marks.{Marks}
 use Rattle.ports.specs.declared.port.Work.{Work}

@@ -1,5 +1,5 @@
 -- When each call is refused at a port, and by which reason: the one with the smallest number that holds.
-use Rattle.std.specs.Prelude.{ℕ, ◌+◌, Bool, true, false, not, ◌&&◌, ◌||◌, List, length, Some, None, Ok, Err, Option, Result, ◌==◌, nat_lt}
+use Rattle.std.specs.Prelude.{ℕ, ◌+◌, Bool, true, false, not, ◌&&◌, ◌||◌, List, Some, None, Ok, Err, Option, Result, ◌==◌, nat_lt}
 use Rattle.codes.specs.declared.number.Refusal.{Refusal}
 use Rattle.codes.specs.declared.number.Refusal.TheVariants.{EqualTerminals, NotConfigured, Connected as IsConnected, Disconnected as IsDisconnected, NotIdle, UnknownCode, TerminalOffline, DataOutside, NotMarked, ExpeditedFirst}
 use Rattle.codes.specs.declared.function.FunctionCode.{FunctionCode}
@@ -7,7 +7,6 @@ use Rattle.codes.specs.declared.function.FunctionCode.TheVariants.{Wcus}
 use Rattle.codes.specs.Codes.{code_of, code_byte, needs_online, report_listed}
 use Rattle.tca.specs.Fields.{data_area}
 use Rattle.tca.specs.declared.request.Request.{Request}
-use Rattle.ports.specs.declared.port.Marks.{Marks}
 use Rattle.ports.specs.declared.port.Connection.{Connection}
 use Rattle.ports.specs.declared.port.PortState.{PortState}
 use Rattle.ports.specs.declared.port.PortState.TheVariants.{Disconnected, Connected}

@@ -1,5 +1,5 @@
 -- Exactly which commands each call sends.
-use Rattle.std.specs.Prelude.{ℕ, Bool, true, false, List, [], ◌∷◌, length, replicate, nat_lt}
+use Rattle.std.specs.Prelude.{ℕ, Bool, true, false, List, length, replicate, nat_lt}
 use Rattle.line.specs.declared.command.Command.TheVariants.{Poll, Start, Acknowledge, TerminalId, Reset}
 use Rattle.line.specs.declared.command.PollAnswer.{PollAnswer}
 use Rattle.line.specs.declared.command.PollAnswer.TheVariants.{Reset as RestartWaits, Status, Clean as NoStatus}

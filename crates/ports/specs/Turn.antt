@@ -1,5 +1,5 @@
 -- Which port is served next.
-use Rattle.std.specs.Prelude.{ℕ, suc, Bool, true, false, cond, not, ◌&&◌, List, [], ◌∷◌, replicate, Some, None, Option, nat_lt}
+use Rattle.std.specs.Prelude.{ℕ, suc, Bool, false, cond, not, ◌&&◌, List, [], ◌∷◌, replicate, Some, None, Option, nat_lt}
 use Rattle.ports.specs.declared.port.PortState.{PortState}
 use Rattle.ports.specs.declared.port.PortState.TheVariants.{Disconnected, Connected}
 use Rattle.ports.specs.declared.port.Port.{Port}

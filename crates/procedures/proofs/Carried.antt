@@ -1,5 +1,5 @@
 -- What was sent down a line was sent by the rules, on what the line tells.
-use Rattle.std.proofs.Common.{◌≡◌, ℕ, Ok, Err, Option, Result, ap, inl, inr}
+use Rattle.std.proofs.Common.{ℕ, Ok, Err, Option, Result, ap, inl, inr}
 use Rattle.line.specs.declared.command.Command.{Command}
 use Rattle.line.specs.declared.command.Reply.{Reply}
 use Rattle.procedures.specs.declared.silence.Silence.{Silence}

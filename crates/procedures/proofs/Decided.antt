@@ -1,14 +1,13 @@
 -- The sendings of a procedure decide its outcome: their choices, in order, give the same by the function.
-use Rattle.std.proofs.Common.{◌≡◌, ℕ, zero, suc, ◌+◌, ◌-◌, ◌<◌, ◌⊎◌, List, [], ◌∷◌, ◌++◌, Some, None, Ok, Err, Option, Result, sym, refl, ap, ◌∙◌, inl, inr, append_assoc, append-nil, zero-add, arith}
+use Rattle.std.proofs.Common.{◌≡◌, ℕ, suc, ◌+◌, ◌-◌, List, [], ◌∷◌, ◌++◌, Ok, Err, Result, sym, refl, ◌∙◌, inl, inr, append_assoc, append-nil, zero-add, arith}
 use Rattle.line.specs.declared.command.Command.{Command}
 use Rattle.line.specs.declared.command.Reply.{Reply}
 use Rattle.line.specs.State.{State, Choice}
-use Rattle.line.specs.Rules.{after, answer, Permitted}
+use Rattle.line.specs.Rules.{Permitted}
 use Rattle.procedures.specs.declared.silence.Silence.{Silence}
-use Rattle.procedures.specs.Silences.{silence_of}
 use Rattle.procedures.specs.Procedure.{Procedure, gives, sends, once, thens}
-use Rattle.procedures.specs.Performed.{Performed, next, later, or_again, tried, going_on, performed, most_sendings}
-use Rattle.procedures.specs.Performs.{Unanswered, none, more, Sends, Goes, Performs, performs}
+use Rattle.procedures.specs.Performed.{Performed, tried, performed}
+use Rattle.procedures.specs.Performs.{Unanswered, none, more, Sends, Goes, performs}
 use Rattle.procedures.specs.Laws.{SendingsDecideTheOutcome}
 
 abbrev ending : {A : Type 0} → Result A Silence → State → List Choice → Performed A

@@ -1,15 +1,14 @@
 -- What a procedure that went through leaves, read off the function of the choices.
-use Rattle.std.proofs.Common.{◌≡◌, ℕ, zero, suc, ◌+◌, min, Bool, true, false, ltb, List, [], ◌∷◌, length, Some, None, Ok, Err, Option, Result, sym, refl, ap, ◌∙◌, arith}
+use Rattle.std.proofs.Common.{◌≡◌, ℕ, zero, suc, ◌+◌, min, Bool, true, false, List, [], ◌∷◌, length, Ok, Err, Result, sym, refl, ap, ◌∙◌, arith}
 use borrow.Author.Tests.{clash}
 use Rattle.line.specs.declared.command.Command.{Command}
 use Rattle.line.specs.declared.command.Command.TheVariants.{Poll, Read, Write, Start, Acknowledge, TerminalId, Reset}
 use Rattle.line.specs.declared.command.Reply.{Reply}
 use Rattle.line.specs.State.{Device, State, Choice, Passage, answered, unheard, unanswered}
-use Rattle.line.specs.Rules.{after, answer, effect, hears, reply, fate, device_after, row_after, answer_by, may_write, Permitted}
+use Rattle.line.specs.Rules.{after, answer, effect, hears, reply, fate}
 use Rattle.line.specs.Laws.{repeatable}
 use Rattle.line.proofs.Implied.{effect_length, repeated_command_does_nothing_more}
 use Rattle.procedures.specs.declared.silence.Silence.{Silence}
-use Rattle.procedures.specs.Silences.{silence_of}
 use Rattle.procedures.specs.Procedure.{Procedure, gives, sends, once, thens}
 use Rattle.procedures.specs.Performed.{Performed, next, later, or_again, tried, going_on, performed}
 use Rattle.procedures.specs.Leaves.{effects, Made, Answers, Leaves}

@@ -1,16 +1,13 @@
 -- What a single read says of the line that it was sent down.
-use Rattle.std.proofs.Common.{◌≡◌, ℕ, Ok, Err, Option, Result, sym, refl, ap, ◌∙◌, inl, inr, arith}
+use Rattle.std.proofs.Common.{◌≡◌, ℕ, Ok, Err, Option, sym, ap, ◌∙◌, inl, inr, arith}
 use Rattle.line.specs.declared.command.Command.{Command}
-use Rattle.line.specs.declared.command.Command.TheVariants.{Read}
 use Rattle.line.specs.declared.command.Reply.{Reply}
-use Rattle.line.specs.State.{Device, State, at}
+use Rattle.line.specs.State.{State, at}
 use Rattle.line.specs.Rules.{Permitted}
 use Rattle.procedures.specs.declared.silence.Silence.{Silence}
-use Rattle.procedures.specs.Silences.{silence_of}
 use Rattle.procedures.specs.Procedure.{reads}
 use Rattle.procedures.specs.Performed.{Performed, performed}
 use Rattle.procedures.specs.Performs.{Step, Goes, Performs, performs}
-use Rattle.procedures.specs.Leaves.{Leaves}
 use Rattle.procedures.proofs.Carried.{carried}
 use Rattle.procedures.proofs.Decided.{sendings_decide_the_outcome}
 use Rattle.procedures.proofs.Left.{leaves}

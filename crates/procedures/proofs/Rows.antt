@@ -1,5 +1,5 @@
 -- What rows of reads and of writes leave, once they went through.
-use Rattle.std.proofs.Common.{◌≡◌, ℕ, zero, suc, ◌+◌, ◌<◌, ◌≤◌, Bool, true, false, cond, eqb, List, [], ◌∷◌, length, get_or, sym, refl, ap, ◌∙◌, add-zero, arith, ne_eqb}
+use Rattle.std.proofs.Common.{◌≡◌, ℕ, zero, suc, ◌+◌, ◌<◌, false, eqb, List, [], ◌∷◌, length, get_or, sym, refl, ap, ◌∙◌, add-zero, arith, ne_eqb}
 use Rattle.line.specs.State.{Device, State, at}
 use Rattle.line.specs.Rules.{is_in, bytes_at}
 use Rattle.line.specs.Posts.{put_row}

@@ -1,11 +1,11 @@
 -- How long a silence is when it breaks a procedure off.
-use Rattle.std.proofs.Common.{◌≡◌, ℕ, zero, suc, ◌+◌, ◌≤◌, min, List, Ok, Err, Option, Result, refl, ◌∙◌, arith}
+use Rattle.std.proofs.Common.{◌≡◌, ℕ, zero, suc, ◌+◌, ◌≤◌, min, List, Ok, Err, Result, refl, arith}
 use Rattle.line.specs.declared.command.Command.{Command}
 use Rattle.line.specs.declared.command.Reply.{Reply}
 use Rattle.line.specs.State.{State, Choice, Passage, answered, unheard, unanswered}
-use Rattle.line.specs.Rules.{after, answer, effect, reply, fate}
+use Rattle.line.specs.Rules.{after, answer, effect, fate}
 use Rattle.procedures.specs.declared.silence.Silence.{Silence}
-use Rattle.procedures.specs.Procedure.{Procedure, gives, sends, once, thens}
+use Rattle.procedures.specs.Procedure.{gives, sends, once, thens}
 use Rattle.procedures.specs.Performed.{Performed, next, later, or_again, tried, going_on, performed}
 use Rattle.procedures.specs.Laws.{SilenceIsThirtyTwoInARow}
 

@@ -1,6 +1,5 @@
 -- How performing a procedure is put together, step by step, as code goes through it.
-use Rattle.std.proofs.Common.{◌≡◌, ℕ, zero, suc, ◌+◌, ◌<◌, ◌≤◌, Bool, true, false, List, [], ◌∷◌, ◌++◌, length, get_or, drop, IsErrAnd, Some, None, Ok, Err, Option, Result, sym, refl, ap, ◌∙◌, inl, inr, append_assoc, append-nil, add-one, arith, drop-cons}
-use lib.Seq.{drop-length}
+use Rattle.std.proofs.Common.{◌≡◌, ℕ, suc, ◌+◌, ◌<◌, ◌≤◌, Bool, true, false, List, [], ◌∷◌, ◌++◌, length, get_or, drop, IsErrAnd, Some, Ok, Err, Option, Result, sym, refl, ap, ◌∙◌, inl, inr, append_assoc, append-nil, add-one, drop-cons}
 use Rattle.std.proofs.lemmas.Result.{err_from_is_err_and}
 use Rattle.std.proofs.lemmas.List.{drop_all}
 use Rattle.line.specs.declared.command.Command.{Command}
@@ -8,7 +7,7 @@ use Rattle.line.specs.declared.command.Reply.{Reply}
 use Rattle.procedures.specs.declared.silence.Silence.{Silence}
 use Rattle.procedures.specs.Silences.{silence_of}
 use Rattle.procedures.specs.Procedure.{Procedure, gives, sends, once, thens, either, reads, writes, reads_row, writes_row}
-use Rattle.procedures.specs.Performs.{Step, Unanswered, none, more, Goes, Performs, performs, as_bytes}
+use Rattle.procedures.specs.Performs.{Step, Unanswered, Goes, Performs, performs, as_bytes}
 
 -- whatever performs the rest from here performs the whole from the start
 abbrev pub Led : {S A : Type 0} → Step S → Procedure A → S → Procedure A → S → Type 0

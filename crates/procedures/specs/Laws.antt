@@ -4,7 +4,7 @@ use Rattle.line.specs.State.{State, Choice}
 use Rattle.line.specs.Rules.{Permitted}
 use Rattle.procedures.specs.declared.silence.Silence.{Silence}
 use Rattle.procedures.specs.Procedure.{Procedure}
-use Rattle.procedures.specs.Performed.{Performed, performed}
+use Rattle.procedures.specs.Performed.{performed}
 use Rattle.procedures.specs.Performs.{Performs}
 
 -- Where just the commands of a procedure went down a line that keeps the rules, its result and what the line

@@ -1,21 +1,19 @@
 -- What the terminal promises, from what a Poll makes of its device.
-use Rattle.std.proofs.Common.{◌≡◌, ℕ, ◌+◌, ◌%◌, ◌^◌, ◌<◌, ◌≤◌, Bool, true, false, cond, not, ◌&&◌, ◌||◌, eqb, ltb, leb, ◌⊎◌, List, [], ◌∷◌, length, get_or, is_some, Some, None, Option, sym, refl, ap, ◌∙◌, inl, inr, arith}
+use Rattle.std.proofs.Common.{◌≡◌, ℕ, ◌+◌, ◌%◌, ◌^◌, ◌≤◌, Bool, true, false, cond, ◌&&◌, ltb, ◌⊎◌, List, [], ◌∷◌, length, get_or, is_some, Some, None, Option, sym, refl, ap, ◌∙◌, inl, inr, arith}
 use borrow.Author.Tests.{clash}
 use Rattle.tca.specs.Fields.{dpastat, dpsstat, event_places, synchronous_places}
 use Rattle.tca.specs.Records.{event_bytes, synchronous_bytes}
 use Rattle.tca.specs.declared.status.Event.{Event}
 use Rattle.tca.specs.declared.status.SynchronousStatus.{SynchronousStatus}
-use Rattle.line.specs.declared.command.Command.{Command}
 use Rattle.line.specs.declared.command.Command.TheVariants.{Poll, Read, Write, Start, Acknowledge, TerminalId, Reset}
 use Rattle.line.specs.declared.command.Reply.{Reply}
-use Rattle.line.specs.State.{Device, State, Passage, answered, unheard, at}
-use Rattle.line.specs.Rules.{hears, bytes_at, may_write, answer_by, is_in}
+use Rattle.line.specs.State.{Device, answered, unheard, at}
+use Rattle.line.specs.Rules.{bytes_at, may_write, answer_by}
 use Rattle.lines.specs.declared.terminal.Terminal.{Terminal}
 use Rattle.simulated.specs.Posts.{free}
-use Rattle.simulated.specs.Simulated.{device_of, state_of}
-use Rattle.lines.specs.Terminal.{Own, own, Steps, polled, post_event, post_end, held_event, held_end}
+use Rattle.lines.specs.Terminal.{Own, Steps, post_event, held_event, held_end}
 use Rattle.promises.specs.Promises.{seen_from, TerminalAnswersWhateverItMay, TerminalPostsTheEventItWasTold, TerminalPostsNoOtherEvent, TerminalPostsTheEndItWasTold, TerminalPostsNoOtherEnd}
-use Rattle.line.proofs.Rows.{read_row, row_read, read_same, apart}
+use Rattle.line.proofs.Rows.{read_row, read_same, apart}
 use Rattle.line.proofs.Posting.{post_if, if_length, if_other, if_toggle, if_row}
 use Rattle.lines.specs.Terminals.{event_is, due_event, due_end, event_list, end_list, evented, ended, after_poll, still_due}
 

@@ -1,5 +1,5 @@
 -- What a simulated device tells.
-use Rattle.std.specs.Prelude.{ℕ, Bool, true, false, not, ◌&&◌, List, [], replicate, vec_items, ◌==◌}
+use Rattle.std.specs.Prelude.{ℕ, Bool, true, false, not, ◌&&◌, [], replicate, vec_items, ◌==◌}
 use Rattle.tca.specs.Fields.{cusyn}
 use Rattle.line.specs.State.{Device, State, Choice, answered, at}
 use Rattle.simulated.specs.declared.device.SimulatedDevice.{SimulatedDevice}

@@ -1,5 +1,5 @@
 -- A table is sound where one computation over all its rows and pairs of rows says so.
-use Rattle.std.proofs.Common.{ℕ, zero, suc, ◌+◌, ◌<◌, ◌≤◌, Bool, true, false, ◌&&◌, ◌||◌, T, leb, ◌⊎◌, List, [], ◌∷◌, length, get_or, inl, inr, le_of_suc-le-suc, not-suc-le-zero, leb→le}
+use Rattle.std.proofs.Common.{ℕ, zero, suc, ◌+◌, ◌<◌, Bool, true, false, ◌&&◌, ◌||◌, T, leb, ◌⊎◌, List, [], ◌∷◌, length, get_or, inl, inr, le_of_suc-le-suc, not-suc-le-zero, leb→le}
 use Rattle.tca.specs.declared.field.Field.{Field}
 use Rattle.tca.specs.declared.field.Half.{Half}
 use Rattle.tca.specs.declared.field.Half.TheVariants.{Device, Unit as OfUnit}

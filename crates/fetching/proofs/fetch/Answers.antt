@@ -1,4 +1,4 @@
-use Rattle.std.proofs.Common.{◌≡◌, ◌≤◌, length, None, sym, arith}
+use Rattle.std.proofs.Common.{◌≡◌, length, None, sym, arith}
 use Rattle.ports.specs.Refusals.{refuse_connected, refuse_fetch}
 use Rattle.ports.specs.Calls.{fetch_call}
 use Rattle.ports.proofs.Refused.{fetch_fits}

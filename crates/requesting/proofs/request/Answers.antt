@@ -1,4 +1,4 @@
-use Rattle.std.proofs.Common.{◌≡◌, ◌≤◌, length, None, sym, ◌∙◌, arith}
+use Rattle.std.proofs.Common.{◌≡◌, length, None, sym, arith}
 use Rattle.ports.specs.Refusals.{refuse_connected, refuse_request}
 use Rattle.ports.specs.Calls.{request_call}
 use Rattle.ports.proofs.Refused.{request_fits}

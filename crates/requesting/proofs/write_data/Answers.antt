@@ -1,4 +1,4 @@
-use Rattle.std.proofs.Common.{◌≡◌, ◌+◌, ◌<◌, ◌≤◌, length, get_or, sym, arith}
+use Rattle.std.proofs.Common.{◌<◌, length, sym, arith}
 use Rattle.procedures.specs.Procedure.{rising}
 use Rattle.procedures.proofs.Rows.{rising_length, rising_at}
 use Rattle.procedures.proofs.Steps.{row_more, row_broken, row_done}

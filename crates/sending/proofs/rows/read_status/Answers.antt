@@ -1,4 +1,4 @@
-use Rattle.std.proofs.Common.{◌≡◌, ℕ, ◌<◌, ◌≤◌, length, take, set, Some, None, sym, refl, ap, ◌∙◌, add-one, arith, length-set, length-take, take-suc-set}
+use Rattle.std.proofs.Common.{◌≡◌, ℕ, ◌<◌, length, take, Some, None, sym, refl, ap, ◌∙◌, add-one, arith, length-set, length-take, take-suc-set}
 use Rattle.std.proofs.lemmas.Result.{err_from_is_err_and}
 use Rattle.procedures.proofs.Steps.{reading_begins, reading_more, reading_broken, reading_done}
 use Rattle.sending.proofs.rows.read_status.Goals as goal

@@ -1,4 +1,4 @@
-use Rattle.std.proofs.Common.{◌<◌, length, sym, arith, ltb-false, ltb-true}
+use Rattle.std.proofs.Common.{sym, arith, ltb-false, ltb-true}
 use Rattle.procedures.proofs.Steps.{row_more, row_broken, row_done, row_short}
 use Rattle.sending.proofs.rows.write_row.Goals as goal
 

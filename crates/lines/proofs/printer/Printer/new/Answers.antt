@@ -1,6 +1,5 @@
 use Rattle.std.proofs.Common.{false, ap}
 use Rattle.line.specs.State.{State}
-use Rattle.lines.specs.Printer.{Own}
 use Rattle.lines.proofs.printer.Printer.new.Goals as goal
 
 -- said outright, since the search would write out all of memory

@@ -1,6 +1,4 @@
-use Rattle.std.proofs.Common.{◌≡◌, ℕ, ◌<◌, ◌≤◌, true, cond, List, length, get_or, vec_items, vec_len, sym, refl, ap, ◌∙◌, arith, rules, eq-eqb}
-use Rattle.line.specs.State.{Device}
-use Rattle.simulated.specs.Simulated.{device_of, obliging}
+use Rattle.std.proofs.Common.{◌≡◌, get_or, vec_items, sym, refl, ◌∙◌, arith}
 use Rattle.simulated.proofs.Zeros.{zeros_remade}
 use Rattle.simulated.proofs.device.SimulatedDevice.restart.Goals as goal
 

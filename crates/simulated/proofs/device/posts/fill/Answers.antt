@@ -1,4 +1,4 @@
-use Rattle.std.proofs.Common.{◌≡◌, ℕ, ◌<◌, List, length, get_or, set, vec_items, sym, refl, ap, ◌∙◌, arith}
+use Rattle.std.proofs.Common.{ℕ, ◌<◌, List, length, get_or, sym, refl, ap, ◌∙◌, arith}
 use Rattle.line.proofs.Rows.{row_more, row_all}
 use Rattle.simulated.proofs.device.posts.fill.Goals as goal
 
