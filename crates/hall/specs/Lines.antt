@@ -1,5 +1,5 @@
 -- What each line of a hall tells, by the number of its port.
-use Rattle.std.specs.Prelude.{List, [], ◌∷◌, true, false, ℕ, zero, suc, replicate}
+use Rattle.std.specs.Prelude.{List, [], ◌∷◌, true, false, zero, suc, replicate}
 use Rattle.line.specs.State.{State}
 use Rattle.counts.specs.Run.{Lines}
 
