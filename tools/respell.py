@@ -3,10 +3,11 @@
 functions, lemmas, fields and constructors in snake case, facts and types in camel case, where they had dashes.
 
 usage: tools/respell.py          at the top of a checkout: rewrites the files of crates/ in place
-       tools/respell.py --list   only prints each name and what it becomes
+       tools/respell.py --list   only prints each name, what it becomes, and the files where that stands already
 
-A name is turned only where it is one of ours: declared in a file of specs/ or proofs/. Names of the library and names
-that Rattle makes (in proofs/F/) keep their dashes. It stops where two names fall together.
+A name is turned where it is spelled as one that we declare in a file of specs/ or proofs/, or as an alias of an import.
+Other names keep their dashes, and so do those in a file's imports from the library. It stops where two of our names
+would become one; names that stand already, as Rust's functions do, are for a reader of --list.
 """
 import glob
 import os
