@@ -5,7 +5,7 @@ ghost use Rattle.procedures.specs.Performs.{Performs, as_bytes};
 use crate::{read, write};
 use line::Line;
 use procedures::silence::Silence;
-use tca::family::Family;
+use tca::family::{Family, Readable};
 
 // The most bytes that a status record has.
 const LONGEST_RECORD: usize = 6;
@@ -24,7 +24,7 @@ pub fn write_row<L: Line>(line: &mut L, places: &[u16], bytes: &[u8]) -> Result<
 }
 
 // The record of a family, read in the order of its places.
-pub fn read_status<F: Family, L: Line>(line: &mut L) -> Result<F::Record, Silence>
+pub fn read_status<F: Readable, L: Line>(line: &mut L) -> Result<F::Record, Silence>
     ensures { Performs L.Line.step (reads_row F.Family.places) line.old (as_bytes F.Family.bytes result) line.new }
 {
     let mut bytes = [0; LONGEST_RECORD];

@@ -1,5 +1,5 @@
 -- The table of the fields, and what makes a table of fields sound.
-use Rattle.std.specs.Prelude.{ℕ, ◌+◌, ◌<◌, ◌≤◌, ◌⊎◌, List, [], ◌∷◌, length, get_or, slice_index_or}
+use Rattle.std.specs.Prelude.{ℕ, ◌+◌, ◌<◌, ◌≤◌, ◌⊎◌, List, [], ◌∷◌, length, slice_index_or}
 use Rattle.tca.specs.declared.field.Field.{Field}
 use Rattle.tca.specs.declared.field.Half.{Half}
 use Rattle.tca.specs.declared.field.Half.TheVariants.{Device, Unit as OfUnit}
@@ -21,7 +21,7 @@ nowhere = record { name = Dpastat; address = 0; length = 0; half = Device }
 
 -- each field lies in its own half, and no two overlap
 pub record Sound (fs : List Field) : Type 0 where
-  pub owned : (i : ℕ) → i < length fs → In (slice_index_or fs i nowhere) (get_or fs i nowhere).half
+  pub owned : (i : ℕ) → i < length fs → In (slice_index_or fs i nowhere) (slice_index_or fs i nowhere).half
   pub apart : (i j : ℕ) → i < j → j < length fs → Apart (slice_index_or fs i nowhere) (slice_index_or fs j nowhere)
 
 abbrev pub table : List Field

@@ -50,17 +50,19 @@ pub trait Family {
 
     ghost whole: { (bs : List ℕ) (r : Self.Record) → of bs ≡ Some r → bytes r ≡ bs };
 
-    // as many bytes as there are places are a record, and no record has more than six
-    ghost every: { (bs : List ℕ) → length bs ≡ length places → (r : Self.Record) × (of bs ≡ Some r) };
-
-    ghost few: { length places ≤ 6 };
-
     // all of it stands before the data area, and the toggle apart from the record
     ghost within: { (k : ℕ) → k < length places → slice_index places k < data_area };
 
     ghost toggled: { toggle < data_area };
 
     ghost apart: { (k : ℕ) → k < length places → slice_index places k ≢ toggle };
+}
+
+// A family whose record a unit can read: as many bytes as there are places are a record, and these are six at most.
+pub trait Readable: Family {
+    ghost every: { (bs : List ℕ) → length bs ≡ length Self.Family.places → (r : Self.Record) × (Self.Family.of bs ≡ Some r) };
+
+    ghost few: { length Self.Family.places ≤ 6 };
 }
 
 fn byte_at(bytes: &[u8], n: usize) -> u8
@@ -93,10 +95,6 @@ impl Family for Synchronous {
     ghost back = { Prim.search rules };
 
     ghost whole = { λ bs r e. let held = if_long_is 4 synchronous_of bs r e in ap synchronous_bytes (sym held.1) ∙ reads_all 4 bs held.0 };
-
-    ghost every = { λ bs e. (synchronous_of bs, rw (eq-eqb (length bs) 4 e) refl) };
-
-    ghost few = { Prim.search rules };
 
     ghost within = { Prim.search rules };
 
@@ -146,10 +144,6 @@ impl Family for Asynchronous {
 
     ghost whole = { λ bs r e. let held = if_long_is 6 event_of bs r e in ap event_bytes (sym held.1) ∙ reads_all 6 bs held.0 };
 
-    ghost every = { λ bs e. (event_of bs, rw (eq-eqb (length bs) 6 e) refl) };
-
-    ghost few = { Prim.search rules };
-
     ghost within = { Prim.search rules };
 
     ghost toggled = { Prim.search rules };
@@ -198,10 +192,6 @@ impl Family for Expedited {
 
     ghost whole = { λ bs r e. let held = if_long_is 6 expedited_of bs r e in ap expedited_bytes (sym held.1) ∙ reads_all 6 bs held.0 };
 
-    ghost every = { λ bs e. (expedited_of bs, rw (eq-eqb (length bs) 6 e) refl) };
-
-    ghost few = { Prim.search rules };
-
     ghost within = { Prim.search rules };
 
     ghost toggled = { Prim.search rules };
@@ -226,4 +216,22 @@ impl Family for Expedited {
             Err(_) => None,
         }
     }
+}
+
+impl Readable for Synchronous {
+    ghost every = { λ bs e. (synchronous_of bs, rw (eq-eqb (length bs) 4 e) refl) };
+
+    ghost few = { Prim.search rules };
+}
+
+impl Readable for Asynchronous {
+    ghost every = { λ bs e. (event_of bs, rw (eq-eqb (length bs) 6 e) refl) };
+
+    ghost few = { Prim.search rules };
+}
+
+impl Readable for Expedited {
+    ghost every = { λ bs e. (expedited_of bs, rw (eq-eqb (length bs) 6 e) refl) };
+
+    ghost few = { Prim.search rules };
 }

@@ -1,4 +1,4 @@
-ghost use Rattle.std.specs.Prelude.{◌≡◌, ◌+◌, false, ◌&&◌, ◌||◌, leb, IfOk, if◌then◌else◌, Option, nat_le};
+ghost use Rattle.std.specs.Prelude.{◌≡◌, ◌+◌, false, ◌&&◌, ◌||◌, IfOk, if◌then◌else◌, Option, nat_le};
 ghost use Rattle.tca.specs.Fields.{exfak};
 ghost use Rattle.line.specs.State.{State};
 ghost use Rattle.line.specs.declared.command.Command.{Command};
@@ -63,7 +63,7 @@ impl Printer {
         ensures { own self.new ≡ record {
           state = state_of self.old.device;
           left = self.old.left;
-          ends = (if leb 9 self.old.ends then 0 else self.old.ends + 1);
+          ends = (if nat_le 9 self.old.ends then 0 else self.old.ends + 1);
           due = (self.old.due || nat_le 9 self.old.ends);
           end = self.old.end;
           status = self.old.status;

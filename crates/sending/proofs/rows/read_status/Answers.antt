@@ -16,7 +16,7 @@ returns-in_err-bytes g c =
 pub loop-i-preserved : goal.loop-i-preserved
 loop-i-preserved g c =
     let same = c.places-places.ensures in
-    let few = g.met.F.Family.few in
+    let few = g.met.F.Readable.few in
     let here : c.loop-i.i < length g.F.Family.places = rw same at c.loop-i-test.true in
     let long = c.loop-i.invariant.0 in
     let within : c.loop-i.i < length c.loop-i.bytes = omega arith in (
@@ -29,10 +29,10 @@ loop-i-preserved g c =
 pub unreachable-requires : goal.unreachable-requires
 unreachable-requires g c =
     let same = c.places-places.ensures in
-    let few = g.met.F.Family.few in
+    let few = g.met.F.Readable.few in
     let long = c.loop-i.invariant.0 in
     let many : length (take (length g.F.Family.places) c.loop-i.bytes) ≡ length g.F.Family.places = length-take (length g.F.Family.places) c.loop-i.bytes ∙ omega arith in
-    let there = g.met.F.Family.every (take (length g.F.Family.places) c.loop-i.bytes) many in
+    let there = g.met.F.Readable.every (take (length g.F.Family.places) c.loop-i.bytes) many in
     let none : g.F.Family.of (take (length g.F.Family.places) c.loop-i.bytes) ≡ None = rw same at (sym c.from_slice.ensures ∙ c.in-None.is) in
     let z : ◌≡◌ {A = ℕ} 0 1 = cc in
     omega arith
@@ -40,7 +40,7 @@ unreachable-requires g c =
 pub returns : goal.returns
 returns g c =
     let same = c.places-places.ensures in
-    let few = g.met.F.Family.few in
+    let few = g.met.F.Readable.few in
     let long = c.loop-i.invariant.0 in
     let some : g.F.Family.of (take (length g.F.Family.places) c.loop-i.bytes) ≡ Some c.in-Some.record = rw same at (sym c.from_slice.ensures ∙ c.in-Some.is) in
     let bytes = g.met.F.Family.whole (take (length g.F.Family.places) c.loop-i.bytes) c.in-Some.record some in
