@@ -1,8 +1,9 @@
 -- What the lines tell, by number, where one of them changes.
-use Rattle.std.proofs.Common.{◌≡◌, ◌≢◌, ℕ, zero, suc, ◌<◌, List, [], ◌∷◌, length, get_or, set, refl, ap, ◌∙◌, arith, le_of_suc-le-suc, not-suc-le-zero, length-set, get_or-set_same}
+use Rattle.std.proofs.Common.{◌≡◌, ◌≢◌, ℕ, zero, suc, ◌<◌, List, [], ◌∷◌, length, get_or, set, sym, refl, ap, ◌∙◌, arith, le_of_suc-le-suc, not-suc-le-zero, length-set, get_or-set_same}
+use Rattle.std.proofs.lemmas.Option.{get_or_from_slice_get}
 use Rattle.line.specs.State.{State}
 use Rattle.line.specs.Rules.{Lawful}
-use Rattle.hall.specs.Lines.{nowhere, told}
+use Rattle.hall.specs.Lines.{nowhere, told, OfLine, OthersStay}
 
 nowhere_lawful : Lawful nowhere
 unfolding nowhere
@@ -51,3 +52,18 @@ module _ {L : Type 0} (f : L → State) where
   told_lawful always [] p = nowhere_lawful
   told_lawful always (x ∷ xs) zero = always x
   told_lawful always (x ∷ xs) (suc p) = told_lawful always xs p
+
+-- the line that changed is the new one, and each other one is itself
+module _ {L : Type 0} where
+  pub kept_others : (xs : List L) (i : ℕ) (y : L) → OthersStay i xs (set xs i y)
+  kept_others [] i y r e = refl
+  kept_others (x ∷ xs) zero y zero e = absurd (e refl)
+  kept_others (x ∷ xs) zero y (suc r) e = refl
+  kept_others (x ∷ xs) (suc i) y zero e = refl
+  kept_others (x ∷ xs) (suc i) y (suc r) e = kept_others xs i y r (λ h. e (ap suc h))
+
+  pub of_line : (xs : List L) (i n : ℕ) (y d : L) (Holds : L → L → Type 0) → i ≡ n → i < length xs → Holds (get_or xs i d) y → OfLine n xs (set xs i y) Holds
+  of_line xs i n y d Holds e h x s t p q =
+      let before : get_or xs i d ≡ s = get_or_from_slice_get xs i s d (rw (← e) at p) in
+      let after : y ≡ t = sym (get_or-set_same xs i y d h) ∙ get_or_from_slice_get (set xs i y) i t d (rw (← e) at q) in
+      rw (before, after) at x

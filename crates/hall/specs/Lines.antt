@@ -1,5 +1,5 @@
 -- What each line of a hall tells, by the number of its port.
-use Rattle.std.specs.Prelude.{List, [], ◌∷◌, true, false, zero, suc, replicate}
+use Rattle.std.specs.Prelude.{◌≡◌, ◌≢◌, ℕ, zero, suc, List, [], ◌∷◌, Some, true, false, replicate, slice_get}
 use Rattle.line.specs.State.{State}
 use Rattle.counts.specs.Run.{Lines}
 
@@ -14,3 +14,11 @@ abbrev pub told : {L : Type 0} → (L → State) → List L → Lines
 told f [] p = nowhere
 told f (x ∷ xs) zero = f x
 told f (x ∷ xs) (suc p) = told f xs p
+
+-- what holds of the line with a number, as it was and as it is
+abbrev pub OfLine : {L : Type 0} → ℕ → List L → List L → (L → L → Type 0) → Type 0
+OfLine {L} n xs ys Holds = (s t : L) → slice_get xs n ≡ Some s → slice_get ys n ≡ Some t → Holds s t
+
+-- each line but the one with this number is itself
+abbrev pub OthersStay : {L : Type 0} → ℕ → List L → List L → Type 0
+OthersStay n xs ys = (r : ℕ) → r ≢ n → slice_get ys r ≡ slice_get xs r
