@@ -20,6 +20,7 @@ use tca::request::{Request, terminal_places};
 fn clear<L: Line>(line: &mut L) -> Result<(), Silence>
     ensures { Performs L.Line.step (writes_row (rising unit_half 64) zeros) line.old result line.new }
 {
+    // no `try_for_each`: a proof loses the line that a chain's closure changes
     for place in UNIT_HALF..DATA_AREA {
         write(line, place, 0)?;
     }
@@ -29,7 +30,7 @@ fn clear<L: Line>(line: &mut L) -> Result<(), Silence>
 fn set_up<L: Line>(line: &mut L, terminals: [u8; 5]) -> Result<(), Silence>
     ensures { Performs L.Line.step (sets_up terminals) line.old result line.new }
 {
-    let _ = send(line, Command::Acknowledge)?;
+    send(line, Command::Acknowledge)?;
     clear(line)?;
     write_row(line, &terminal_places(), &terminals)?;
     start(line, Request::cu_ready(), 1)
@@ -50,7 +51,7 @@ fn attach_by<L: Line>(line: &mut L, terminals: [u8; 5], answer: PollAnswer) -> R
     }
 }
 
-// Whether a restart waited, so that the device was set up.
+// Whether a restart waited, so that the device was set up: a question, answered by yes or no, as its definition does.
 pub fn bring_up<L: Line>(line: &mut L, terminals: [u8; 5]) -> Result<bool, Silence>
     ensures { Performs L.Line.step (attaches terminals) line.old result line.new }
 {

@@ -1,2 +1,1 @@
 pub mod Wents
-pub mod Rows

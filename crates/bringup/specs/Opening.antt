@@ -1,5 +1,6 @@
 -- The commands from a restart to the first request.
-use Rattle.std.specs.Prelude.{ℕ, zero, suc, ◌-◌, List, [], ◌∷◌, ◌++◌}
+use Rattle.std.specs.Prelude.{ℕ, ◌-◌, List, [], ◌∷◌, ◌++◌, map}
+use Rattle.std.specs.List.{range_with_len, zip}
 use Rattle.tca.specs.Fields.{dpastat, dpsstat, exfak, cusyn, unit_half, data_area, request_places, terminal_places}
 use Rattle.tca.specs.Records.{request_bytes, cu_ready}
 use Rattle.line.specs.declared.command.Command.{Command}
@@ -8,19 +9,13 @@ use Rattle.line.specs.declared.command.Command.TheVariants.{Poll, Read, Write, S
 abbrev pub toggle_reads : List Command
 toggle_reads = Read exfak ∷ Read dpsstat ∷ Read dpastat ∷ []
 
--- n Writes of zero, from an address on
-abbrev pub zeros : ℕ → ℕ → List Command
-zeros a zero = []
-zeros a (suc n) = Write a 0 ∷ zeros (suc a) n
-
+-- a Write of zero to each place of the unit's half, rising
 unfoldable pub unit_half_zeros : List Command
-unit_half_zeros = zeros unit_half (data_area - unit_half)
+unit_half_zeros = map (λ a. Write a 0) (range_with_len unit_half (data_area - unit_half))
 
--- a Write of each byte to its place
+-- a Write of each byte to its place, as far as there are both
 abbrev pub writes : List ℕ → List ℕ → List Command
-writes [] bs = []
-writes (p ∷ ps) [] = []
-writes (p ∷ ps) (b ∷ bs) = Write p b ∷ writes ps bs
+writes ps bs = map (λ p. Write p.0 p.1) (zip ps bs)
 
 -- The restart is acknowledged, the unit's half cleared, the logical terminals named and the first function
 -- asked for: its bytes, a clear DPSSTAT, the new CUSYN, and the start.

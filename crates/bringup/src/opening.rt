@@ -1,5 +1,5 @@
 // The commands that take a device whose restart waits to its first request.
-ghost use Rattle.std.specs.Prelude.{◌≡◌, ◌≤◌, ◌++◌, length, IfOk, OnOk};
+ghost use Rattle.std.specs.Prelude.{◌≡◌, ◌++◌, IfOk, OnOk};
 ghost use Rattle.bringup.specs.Opening.{writes, unit_half_zeros, opening_commands, toggle_reads};
 
 use line::command::Command;
@@ -22,21 +22,15 @@ pub fn toggle_reads() -> [Command; 3]
 fn clear(commands: &mut Vec<Command>) -> Result<(), AllocError>
     ensures { OnOk result (commands.new.items ≡ commands.old.items ++ unit_half_zeros) }
 {
-    for address in UNIT_HALF..DATA_AREA {
-        commands.push(Command::Write(address, 0))?;
-    }
-    Ok(())
+    commands.extend((UNIT_HALF..DATA_AREA).map(|place| Command::Write(place, 0)))
 }
 
-// Adds a Write of each byte to its place.
+// Adds a Write of each byte to its place, as far as there are both.
 fn write_row(commands: &mut Vec<Command>, places: &[u16], bytes: &[u8]) -> Result<(), AllocError>
-    requires { length places.now ≤ length bytes.now }
     ensures { OnOk result (commands.new.items ≡ commands.old.items ++ writes places.now bytes.now) }
 {
-    for (n, place) in places.iter().enumerate() {
-        commands.push(Command::Write(*place, bytes[n]))?;
-    }
-    Ok(())
+    let row = places.iter().zip(bytes);
+    commands.extend(row.map(|(place, byte)| Command::Write(*place, *byte)))
 }
 
 // Acknowledges the restart, clears the control unit's half, names the five logical terminals and asks for
@@ -49,7 +43,7 @@ pub fn opening(heap: Global, terminals: [u8; 5]) -> Result<Vec<Command>, AllocEr
     commands.push(Command::Acknowledge)?;
     clear(&mut commands)?;
     write_row(&mut commands, &terminal_places(), &terminals)?;
-    let request = Request::cu_ready().to_bytes();
+    let request: [u8; 8] = Request::cu_ready().into();
     write_row(&mut commands, &request_places(), &request)?;
     commands.push(Command::Write(DPSSTAT.address, 0))?;
     commands.push(Command::Write(CUSYN.address, 1))?;

@@ -1,4 +1,5 @@
 // Sendings that are noted: one, a list of them, polls for a status and the reads of a record.
+// The line and its log stay two parameters: a struct of both would own them, and a caller may only lend them.
 ghost use Rattle.std.specs.Prelude.{◌≡◌, [], ◌∷◌, ◌++◌, is_some, Option, MatchResult};
 ghost use Rattle.line.specs.declared.command.Command.TheVariants.{Read};
 ghost use Rattle.line.specs.declared.command.Reply.{Reply};
@@ -38,7 +39,8 @@ fn is_answered<L: Line>(line: &mut L, log: &mut Log, command: Command) -> Result
     Ok(send(line, log, command)?.is_some())
 }
 
-// Sends the commands in order, each once, up to the first that is not answered: whether all were.
+// Sends the commands in order, each once, up to the first that is not answered: whether all were. That is a
+// question, answered by yes or no, and silence is no error of this function's.
 pub fn run<L: Line>(line: &mut L, log: &mut Log, commands: &[Command]) -> Result<bool, AllocError>
     ensures { MatchResult result
         (λ b. Went L.step line.old (sendings log.old) line.new (sendings log.new) (Ran commands.now b))
@@ -56,10 +58,10 @@ pub fn run<L: Line>(line: &mut L, log: &mut Log, commands: &[Command]) -> Result
 fn is_status(reply: Option<Reply>) -> bool
     ensures { result ≡ says_status reply }
 {
-    matches!(reply, Some(Reply::Polled(PollAnswer::Status)))
+    reply == Some(Reply::Polled(PollAnswer::Status))
 }
 
-// Polls until an answer says status, or as often as it may: whether one did.
+// Polls until an answer says status, or as often as it may: whether one did, which is no error either.
 pub fn poll_for_status<L: Line>(line: &mut L, log: &mut Log) -> Result<bool, AllocError>
     ensures { MatchResult result
         (λ b. Went L.step line.old (sendings log.old) line.new (sendings log.new) (PolledUntil 32 b))
@@ -83,7 +85,7 @@ fn read<L: Line>(line: &mut L, log: &mut Log, place: u16) -> Result<Option<Reply
 
 // Reads the places of a family's record in order, up to the first that gives no byte: the record, if all
 // gave one.
-pub fn read_record<F: Family, L: Line>(
+pub fn read_record<F: Family<N>, const N: usize, L: Line>(
     heap: Global,
     line: &mut L,
     log: &mut Log,
@@ -93,7 +95,7 @@ pub fn read_record<F: Family, L: Line>(
         (λ _. Broke L.Line.step line.old (sendings log.old) line.new (sendings log.new)) }
 {
     let mut bytes = Vec::new(heap);
-    for place in F::places() {
+    for place in F::places().iter() {
         let reply = read(line, log, *place)?;
         let Some(byte) = to_byte(reply) else {
             return Ok(None);

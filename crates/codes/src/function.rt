@@ -4,7 +4,7 @@ ghost use Rattle.codes.specs.Codes.{code_of, code_byte, needs_online, report_lis
 
 use crate::number::Refusal;
 
-#[derive(Clone, Copy)]
+#[derive(Clone, Copy, PartialEq, Eq)]
 pub enum FunctionCode {
     // no operation
     Cnop = 0x01,
@@ -34,9 +34,13 @@ pub enum FunctionCode {
     Rpid = 0x0d,
 }
 
-impl FunctionCode {
-    // The clauses `back` and `every` say that a code is given for its own byte and for no other.
-    pub fn from_byte(byte: u8) -> Result<FunctionCode, Refusal>
+// The clauses `back` and `every` say that a code is given for its own byte and for no other.
+impl TryFrom<u8> for FunctionCode {
+    type Error = Refusal;
+
+    ghost try_from_gives = { λ byte r. r ≡ code_of byte };
+
+    fn try_from(byte: u8) -> Result<FunctionCode, Refusal>
         ensures value { result ≡ code_of byte }
         ensures back { (c : FunctionCode) → result ≡ Ok c → code_byte c ≡ byte }
         ensures every { (c : FunctionCode) → code_byte c ≡ byte → result ≡ Ok c }
@@ -58,14 +62,20 @@ impl FunctionCode {
             _ => Err(Refusal::UnknownCode),
         }
     }
+}
 
-    pub fn byte(self) -> u8
-        ensures value { result ≡ code_byte self }
-        ensures back { code_of result ≡ Ok self }
+impl From<FunctionCode> for u8 {
+    ghost from_gives = { λ code byte. byte ≡ code_byte code };
+
+    fn from(code: FunctionCode) -> u8
+        ensures value { result ≡ code_byte code }
+        ensures back { code_of result ≡ Ok code }
     {
-        self as u8
+        code as u8
     }
+}
 
+impl FunctionCode {
     // Whether the function is for a logical terminal that has to be online.
     pub fn needs_online_terminal(self) -> bool
         ensures { result ≡ needs_online self }

@@ -3,7 +3,7 @@ ghost use Rattle.std.specs.Prelude.{◌≡◌};
 ghost use Rattle.codes.specs.Numbers.{refusal_number, ending_number};
 
 // Why a call was refused; nothing has changed then.
-#[derive(Clone, Copy)]
+#[derive(Clone, Copy, PartialEq, Eq)]
 pub enum Refusal {
     // the host named a port above 31
     PortTooHigh = 1,
@@ -33,16 +33,16 @@ pub enum Refusal {
     Malformed = 13,
 }
 
-impl Refusal {
-    pub fn number(self) -> u8
-        ensures { result ≡ refusal_number self }
-    {
-        self as u8
+impl From<Refusal> for u8 {
+    ghost from_gives = { λ refusal number. number ≡ refusal_number refusal };
+
+    fn from(refusal: Refusal) -> u8 {
+        refusal as u8
     }
 }
 
 // Why a connection ended.
-#[derive(Clone, Copy)]
+#[derive(Clone, Copy, PartialEq, Eq)]
 pub enum Ending {
     // 32 sendings went unanswered
     Silence = 21,
@@ -60,10 +60,10 @@ pub enum Ending {
     NotWaiting = 27,
 }
 
-impl Ending {
-    pub fn number(self) -> u8
-        ensures { result ≡ ending_number self }
-    {
-        self as u8
+impl From<Ending> for u8 {
+    ghost from_gives = { λ ending number. number ≡ ending_number ending };
+
+    fn from(ending: Ending) -> u8 {
+        ending as u8
     }
 }

@@ -1,5 +1,7 @@
 -- Attach begins from a waiting restart, where all is as new.
-use Rattle.std.proofs.Common.{◌≡◌, ℕ, ◌+◌, ◌<◌, ◌≤◌, Bool, true, false, cond, ◌&&◌, eqb, List, [], ◌∷◌, length, None, Ok, sym, refl, ap, ◌∙◌, arith}
+use Rattle.std.proofs.Common.{◌≡◌, ℕ, ◌+◌, ◌<◌, ◌≤◌, Bool, true, false, cond, ◌&&◌, eqb, List, [], ◌∷◌, length, Some, None, Ok, Option, sym, refl, ap, ◌∙◌, arith}
+use Rattle.std.specs.Bool.{then_some}
+use Rattle.std.specs.Option.{option_or}
 use borrow.Author.Tests.{clash}
 use Rattle.codes.specs.declared.number.Refusal.TheVariants.{NotConfigured}
 use Rattle.tca.specs.Fields.{dpastat, dpsstat, exfak, unit_half, terminal_places}
@@ -16,12 +18,10 @@ use Rattle.procedures.specs.Procedure.{said, rising}
 use Rattle.procedures.specs.Leaves.{effects, Leaves}
 use Rattle.procedures.proofs.Left.{effects_length}
 use Rattle.procedures.proofs.Rows.{with_memory, writes_leave, rising_from}
-use Rattle.ports.specs.declared.port.Work.TheVariants.{Active as IsActive}
-use Rattle.ports.specs.declared.port.PortState.{PortState}
-use Rattle.ports.specs.declared.port.PortState.TheVariants.{Disconnected as IsDisconnected, Connected}
+use Rattle.ports.specs.declared.port.Connection.{Connection}
 use Rattle.ports.specs.declared.port.Port.{Port}
 use Rattle.ports.specs.Port.{no_marks}
-use Rattle.ports.specs.Refusals.{refuse_if, or_else, if_disconnected}
+use Rattle.ports.specs.Refusals.{if_disconnected}
 use Rattle.ports.specs.Terminals.{none_configured}
 use Rattle.ports.specs.Sendings.{zeros, sets_up, attaches, attaches_by}
 use Rattle.ports.specs.Calls.{attach_call, attach_answer, attached_after}
@@ -61,7 +61,7 @@ module _ (n : Tally) (ts : List ℕ) (d : Device) (big : 256 ≤ length d.memory
   unfolding made_ready
   sized = rw (row_length terminal_places ts (put_row (rising unit_half 64) zeros d.memory), row_length (rising unit_half 64) zeros d.memory) big
 
-  own_attach : (ch : Choice) → Own (count_all (attached ∷ accepted cu_ready ∷ []) n) (record { cusyn = 1; marks = no_marks; online = 0; work = IsActive cu_ready })
+  own_attach : (ch : Choice) → Own (count_all (attached ∷ accepted cu_ready ∷ []) n) (record { cusyn = 1; marks = no_marks; online = 0; request = Some cu_ready })
       (started ch (with_memory (prepared cu_ready 1 (made_ready ts d).memory) (made_ready ts d)))
   unfolding made_ready
   own_attach ch =
@@ -75,9 +75,9 @@ module _ (n : Tally) (ts : List ℕ) (d : Device) (big : 256 ≤ length d.memory
         bit = omega arith;
         good_event = rw (s.1 ∙ at_a) (omega arith);
         good_expedited = rw (s.2 ∙ at_e) (omega arith);
-        marked_asynchronous = λ h. absurd (clash h);
-        marked_expedited = λ h. absurd (clash h);
-        marked_ended = λ h. absurd (clash h);
+        marked_asynchronous = λ h. cc;
+        marked_expedited = λ h. cc;
+        marked_ended = λ h. cc;
         balanced = omega arith;
         stands = refl;
         holds = λ h. refl;
@@ -86,12 +86,12 @@ module _ (n : Tally) (ts : List ℕ) (d : Device) (big : 256 ≤ length d.memory
 -- what a Poll said: a restart waits, or the attach ends in a Reset
 waits : (w q : Bool) → cond w RestartWaits (cond q NoStatus Status) ≡ RestartWaits → w ≡ true
 waits true q h = refl
-waits false true h = let z : ◌≡◌ {A = ℕ} 0 1 = cc in absurd (omega arith)
-waits false false h = let z : ◌≡◌ {A = ℕ} 0 1 = cc in absurd (omega arith)
+waits false true h = cc
+waits false false h = cc
 
 module _ (n : Tally) (ts : List ℕ) (even : n.accepted_ever ≡ n.collected_ever + n.lost_ever) where
   attach_by : (p : PollAnswer) (d : Device) (m u : State) → m.device ≡ d → says d ≡ p → 256 ≤ length d.memory → (d.waiting ≡ true → New d) → Leaves (attaches_by ts p) m true u
-      → Own (count_all (attached ∷ accepted cu_ready ∷ []) n) (record { cusyn = 1; marks = no_marks; online = 0; work = IsActive cu_ready }) u.device
+      → Own (count_all (attached ∷ accepted cu_ready ∷ []) n) (record { cusyn = 1; marks = no_marks; online = 0; request = Some cu_ready }) u.device
   attach_by RestartWaits d m u e says_it big new (x, v, l, (a, f)) =
       let w = waits d.waiting (eqb (at d dpastat) 0 && (eqb (at d dpsstat) 0 && eqb (at d exfak) 0)) says_it in
       let s = sets_up_leave ts m v x l in
@@ -102,14 +102,14 @@ module _ (n : Tally) (ts : List ℕ) (even : n.accepted_ever ≡ n.collected_eve
   attach_by Status d m u e says_it big new (x, v, l, (a, f)) = absurd (clash (sym a))
   attach_by NoStatus d m u e says_it big new (x, v, l, (a, f)) = absurd (clash (sym a))
 
-not_connected : (b : Bool) (s : PortState) → or_else (refuse_if b NotConfigured) (if_disconnected s) ≡ None → if_disconnected s ≡ None
+not_connected : (b : Bool) (s : Option Connection) → option_or (then_some b NotConfigured) (if_disconnected s) ≡ None → if_disconnected s ≡ None
 not_connected b s h = (passes b NotConfigured (if_disconnected s) h).1
 
-attach_goes : (n : Tally) (ts : List ℕ) (s : PortState) (t u : State) → Lawful t → Sound n s t.device → if_disconnected s ≡ None → (x : Bool) → Leaves (attaches ts) t x u
-    → let k : Port = record { terminals = ts; state = s } in Inv (count_all (tells attach (attach_answer (Ok x))) n) (attached_after k (attach_answer (Ok x))) u.device
-attach_goes n ts (Connected c) t u law i e x l = let z : ◌≡◌ {A = ℕ} 0 1 = cc in absurd (omega arith)
-attach_goes n ts IsDisconnected t u law i e false l = i
-attach_goes n ts IsDisconnected t u law i e true (y, m, polling, rest) =
+attach_goes : (n : Tally) (ts : List ℕ) (s : Option Connection) (t u : State) → Lawful t → Sound n s t.device → if_disconnected s ≡ None → (x : Bool) → Leaves (attaches ts) t x u
+    → let k : Port = record { terminals = ts; connection = s } in Inv (count_all (tells attach (attach_answer (Ok x))) n) (attached_after k (attach_answer (Ok x))) u.device
+attach_goes n ts (Some c) t u law i e x l = cc
+attach_goes n ts None t u law i e false l = i
+attach_goes n ts None t u law i e true (y, m, polling, rest) =
     let cs = polling.1.0 in
     let d = effects Poll cs t.device in
     let is_d = polling.1.1 in
@@ -117,13 +117,13 @@ attach_goes n ts IsDisconnected t u law i e true (y, m, polling, rest) =
     attach_by n ts i.0 (says d) d m u is_d refl (rw (effects_length Poll cs t.device) law.large) (acts_new cs t.device law.large law.new) (rw says_it at rest)
 
 pub attach_went : (n : Tally) (k : Port) (t : State) → Lawful t → Inv n k t.device → Went (attach_call k) (tells attach) n k t
-attach_went n k t law i e x u l = attach_goes n k.terminals k.state t u law i (not_connected (none_configured k.terminals) k.state e) x l
+attach_went n k t law i e x u l = attach_goes n k.terminals k.connection t u law i (not_connected (none_configured k.terminals) k.connection e) x l
 
 -- broken off, the port is disconnected as it was
 
-attach_breaks : (n : Tally) (s : PortState) (d e : Device) → if_disconnected s ≡ None → Sound n s d → Sound (count_all (lost_by None) n) s e
-attach_breaks n (Connected c) d e h i = let z : ◌≡◌ {A = ℕ} 0 1 = cc in absurd (omega arith)
-attach_breaks n IsDisconnected d e h i = (i.0, refl)
+attach_breaks : (n : Tally) (s : Option Connection) (d e : Device) → if_disconnected s ≡ None → Sound n s d → Sound (count_all (lost_by None) n) s e
+attach_breaks n (Some c) d e h i = cc
+attach_breaks n None d e h i = (i.0, refl)
 
 pub attach_broke : (n : Tally) (k : Port) (t : State) → Inv n k t.device → Broke (attach_call k) (tells attach) n k t
-attach_broke n k t i e s u = attach_breaks n k.state t.device u.device (not_connected (none_configured k.terminals) k.state e) i
+attach_broke n k t i e s u = attach_breaks n k.connection t.device u.device (not_connected (none_configured k.terminals) k.connection e) i

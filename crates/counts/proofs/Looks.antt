@@ -39,11 +39,11 @@ not_waiting d true a s e p h f = absurd (f (sym h))
 not_waiting d false a s e p h f = refl
 
 clean_zero : (w a s e : Bool) → cond w RestartWaits (cond (a && (s && e)) NoStatus Status) ≡ NoStatus → (a ≡ true) × (e ≡ true)
-clean_zero true a s e h = let z : ◌≡◌ {A = ℕ} 0 1 = cc in absurd (omega arith)
+clean_zero true a s e h = cc
 clean_zero false true true true h = (refl, refl)
-clean_zero false true true false h = let z : ◌≡◌ {A = ℕ} 0 1 = cc in absurd (omega arith)
-clean_zero false true false e h = let z : ◌≡◌ {A = ℕ} 0 1 = cc in absurd (omega arith)
-clean_zero false false s e h = let z : ◌≡◌ {A = ℕ} 0 1 = cc in absurd (omega arith)
+clean_zero false true true false h = cc
+clean_zero false true false e h = cc
+clean_zero false false s e h = cc
 
 module _ (t u : State) (x : Seen) where
   awake_unless : (p : PollAnswer) → says t.device ≡ p → (p ≡ RestartWaits → ⊥) → t.device.waiting ≡ false

@@ -1,17 +1,15 @@
 -- The counts of a port, read off a list of calls with their answers.
 use Rattle.std.specs.Prelude.{ℕ, ◌+◌, Bool, true, false, List, [], ◌∷◌, Some, None, Option, ◌==◌}
+use Rattle.std.specs.Option.{option_map_or}
 use Rattle.tca.specs.declared.request.Request.{Request}
 use Rattle.tca.specs.Records.{cu_ready}
-use Rattle.ports.specs.declared.answers.Configured.TheVariants.{Refused as configure_refused, Set}
-use Rattle.ports.specs.declared.answers.Attached.TheVariants.{Refused as attach_refused, Accepted as attach_accepted, NotWaiting, Disconnected as attach_broken}
-use Rattle.ports.specs.declared.answers.Polled.TheVariants.{Refused as poll_refused, Marked, Disconnected as poll_broken}
-use Rattle.ports.specs.declared.answers.Requested.TheVariants.{Refused as request_refused, Accepted as request_accepted, Disconnected as request_broken}
-use Rattle.ports.specs.declared.answers.Collected.TheVariants.{Refused as collect_refused, Record as collect_record, Disconnected as collect_broken}
-use Rattle.ports.specs.declared.answers.Taken.TheVariants.{Refused as take_refused, Handed, HandedAndDisconnected, Disconnected as take_broken}
-use Rattle.ports.specs.declared.answers.Expedited.TheVariants.{Refused as expedite_refused, Record as expedite_record, Disconnected as expedite_broken}
-use Rattle.ports.specs.declared.answers.Fetched.{Fetched}
-use Rattle.ports.specs.declared.answers.Fetched.TheVariants.{Refused as fetch_refused, Read as fetch_read, Disconnected as fetch_broken}
-use Rattle.ports.specs.declared.answers.Dropped.TheVariants.{Refused as drop_refused, Disconnected as drop_done}
+use Rattle.ports.specs.declared.disconnection.Disconnection.{Disconnection}
+use Rattle.ports.specs.declared.answers.Failure.{Failure}
+use Rattle.ports.specs.declared.answers.Failure.TheVariants.{Refused, Disconnected as Broken}
+use Rattle.ports.specs.declared.answers.AttachFailure.{AttachFailure}
+use Rattle.ports.specs.declared.answers.AttachFailure.TheVariants.{Refused as NotTried, NotWaiting, Disconnected as BrokenOff}
+use Rattle.ports.specs.declared.answers.Handed.{Handed}
+use Rattle.ports.specs.Results.{by_result}
 use Rattle.ports.specs.Asked.{Asked, AnswerTo, configure, attach, poll, request, collect, take, expedite, fetch, drop}
 
 -- what an answer tells that is counted; one answer may tell several
@@ -29,38 +27,35 @@ abbrev pub lost_by : Option Request → List Told
 lost_by None = disconnected ∷ []
 lost_by (Some r) = lost ∷ disconnected ∷ []
 
-abbrev pub tells_fetched : Fetched → List Told
-tells_fetched (fetch_refused n) = []
-tells_fetched fetch_read = []
-tells_fetched (fetch_broken d) = lost_by d.lost
+-- a refusal tells nothing
+abbrev pub tells_failed : Failure → List Told
+tells_failed (Refused n) = []
+tells_failed (Broken d) = lost_by d.lost
 
--- A refusal tells nothing. A request that breaks off is accepted before it is lost.
+-- a request that breaks off is accepted before it is lost
+abbrev pub tells_begun : Request → Failure → List Told
+tells_begun r (Refused n) = []
+tells_begun r (Broken d) = accepted r ∷ lost_by d.lost
+
+abbrev pub tells_not_attached : AttachFailure → List Told
+tells_not_attached (NotTried n) = []
+tells_not_attached NotWaiting = []
+tells_not_attached (BrokenOff d) = lost_by d.lost
+
+-- an event that is handed over may be followed by a disconnection
+abbrev pub tells_handed : Handed → List Told
+tells_handed h = event_handed ∷ option_map_or (λ (d : Disconnection). lost_by d.lost) h.disconnection []
+
 abbrev pub tells : (q : Asked) → AnswerTo q → List Told
-tells (configure ts) (configure_refused n) = []
-tells (configure ts) Set = []
-tells attach (attach_refused n) = []
-tells attach attach_accepted = attached ∷ accepted cu_ready ∷ []
-tells attach NotWaiting = []
-tells attach (attach_broken d) = lost_by d.lost
-tells poll (poll_refused n) = []
-tells poll (Marked m) = []
-tells poll (poll_broken d) = lost_by d.lost
-tells (request r bs) (request_refused n) = []
-tells (request r bs) request_accepted = accepted r ∷ []
-tells (request r bs) (request_broken d) = accepted r ∷ lost_by d.lost
-tells collect (collect_refused n) = []
-tells collect (collect_record s) = collected ∷ []
-tells collect (collect_broken d) = lost_by d.lost
-tells take (take_refused n) = []
-tells take (Handed e) = event_handed ∷ []
-tells take (HandedAndDisconnected e d) = event_handed ∷ lost_by d.lost
-tells take (take_broken d) = lost_by d.lost
-tells (expedite response) (expedite_refused n) = []
-tells (expedite response) (expedite_record s) = expedited_handed ∷ []
-tells (expedite response) (expedite_broken d) = lost_by d.lost
-tells (fetch address long buffer) a = tells_fetched a.0
-tells drop (drop_refused n) = []
-tells drop (drop_done d) = lost_by d.lost
+tells (configure ts) a = []
+tells attach a = by_result (λ _. attached ∷ accepted cu_ready ∷ []) tells_not_attached a
+tells poll a = by_result (λ m. []) tells_failed a
+tells (request r bs) a = by_result (λ _. accepted r ∷ []) (tells_begun r) a
+tells collect a = by_result (λ s. collected ∷ []) tells_failed a
+tells take a = by_result tells_handed tells_failed a
+tells (expedite response) a = by_result (λ s. expedited_handed ∷ []) tells_failed a
+tells (fetch address long buffer) a = by_result (λ _. []) tells_failed a.0
+tells drop a = by_result (λ (d : Disconnection). lost_by d.lost) (λ n. []) a
 
 -- how a port stands by the answers
 pub data Standing : Type 0 where
@@ -81,13 +76,13 @@ pub record Tally : Type 0 where
   pub expedited_since : ℕ
 
 abbrev pub count : Told → Tally → Tally
-count attached n = record { standing = Idle; accepted_ever = n.accepted_ever; collected_ever = n.collected_ever; lost_ever = n.lost_ever; latest = n.latest; collected_since = 0; events_since = 0; expedited_since = 0 }
-count (accepted r) n = record { standing = Active; accepted_ever = n.accepted_ever + 1; collected_ever = n.collected_ever; lost_ever = n.lost_ever; latest = r; collected_since = n.collected_since; events_since = n.events_since; expedited_since = n.expedited_since }
-count collected n = record { standing = Idle; accepted_ever = n.accepted_ever; collected_ever = n.collected_ever + 1; lost_ever = n.lost_ever; latest = n.latest; collected_since = n.collected_since + 1; events_since = n.events_since; expedited_since = n.expedited_since }
-count event_handed n = record { standing = n.standing; accepted_ever = n.accepted_ever; collected_ever = n.collected_ever; lost_ever = n.lost_ever; latest = n.latest; collected_since = n.collected_since; events_since = n.events_since + 1; expedited_since = n.expedited_since }
-count expedited_handed n = record { standing = n.standing; accepted_ever = n.accepted_ever; collected_ever = n.collected_ever; lost_ever = n.lost_ever; latest = n.latest; collected_since = n.collected_since; events_since = n.events_since; expedited_since = n.expedited_since + 1 }
-count lost n = record { standing = n.standing; accepted_ever = n.accepted_ever; collected_ever = n.collected_ever; lost_ever = n.lost_ever + 1; latest = n.latest; collected_since = n.collected_since; events_since = n.events_since; expedited_since = n.expedited_since }
-count disconnected n = record { standing = Disconnected; accepted_ever = n.accepted_ever; collected_ever = n.collected_ever; lost_ever = n.lost_ever; latest = n.latest; collected_since = n.collected_since; events_since = n.events_since; expedited_since = n.expedited_since }
+count attached n = record n { standing = Idle; collected_since = 0; events_since = 0; expedited_since = 0 }
+count (accepted r) n = record n { standing = Active; accepted_ever = n.accepted_ever + 1; latest = r }
+count collected n = record n { standing = Idle; collected_ever = n.collected_ever + 1; collected_since = n.collected_since + 1 }
+count event_handed n = record n { events_since = n.events_since + 1 }
+count expedited_handed n = record n { expedited_since = n.expedited_since + 1 }
+count lost n = record n { lost_ever = n.lost_ever + 1 }
+count disconnected n = record n { standing = Disconnected }
 
 abbrev pub count_all : List Told → Tally → Tally
 count_all [] n = n

@@ -22,7 +22,7 @@ fn working(rt: &(impl Abort + AllocGlobal)) -> Result<Terminal, Fail> {
     let mut terminal = awake(rt)?;
     assert!(rt; terminal.write(CUSYN.address, 1));
     assert!(rt; terminal.start());
-    assert!(rt; terminal.telling().taken == 1);
+    assert!(rt; terminal.telling().registers.taken == 1);
     Ok(terminal)
 }
 
@@ -30,7 +30,7 @@ fn working(rt: &(impl Abort + AllocGlobal)) -> Result<Terminal, Fail> {
 fn same_cusyn_twice_is_taken_once(rt: HostRuntime) -> Result<(), Fail> {
     let mut terminal = working(&rt)?;
     assert!(rt; terminal.start());
-    assert!(rt; terminal.telling().taken == 1 && terminal.telling().working);
+    assert!(rt; terminal.telling().registers.taken == 1 && terminal.telling().registers.working);
     Ok(())
 }
 
@@ -39,7 +39,7 @@ fn start_while_working_restarts(rt: HostRuntime) -> Result<(), Fail> {
     let mut terminal = working(&rt)?;
     assert!(rt; terminal.write(CUSYN.address, 0));
     assert!(rt; terminal.start());
-    assert!(rt; terminal.telling().waiting && terminal.telling().taken == 0);
+    assert!(rt; terminal.telling().registers.waiting && terminal.telling().registers.taken == 0);
     assert!(rt; terminal.poll() == Some(PollAnswer::Reset));
     Ok(())
 }
@@ -49,8 +49,8 @@ fn write_is_heard_in_the_units_half(rt: HostRuntime) -> Result<(), Fail> {
     let mut terminal = awake(&rt)?;
     assert!(rt; terminal.write(0x0045, 7));
     assert!(rt; terminal.read(0x0045) == Some(7));
-    assert!(rt; !terminal.write(DAEV.address, 7) && terminal.telling().row == 1);
-    assert!(rt; terminal.read(0x0007) == Some(0) && terminal.telling().row == 0);
+    assert!(rt; !terminal.write(DAEV.address, 7) && terminal.telling().registers.row == 1);
+    assert!(rt; terminal.read(0x0007) == Some(0) && terminal.telling().registers.row == 0);
     Ok(())
 }
 
@@ -96,7 +96,9 @@ fn end_is_posted_once_and_only_for_a_request(rt: HostRuntime) -> Result<(), Fail
     });
     assert!(rt; terminal.poll() == Some(PollAnswer::Clean));
     assert!(rt; terminal.write(CUSYN.address, 1) && terminal.start());
-    assert!(rt; terminal.poll() == Some(PollAnswer::Status) && !terminal.telling().working);
+    assert!(rt;
+        terminal.poll() == Some(PollAnswer::Status) && !terminal.telling().registers.working
+    );
     assert!(rt; terminal.read(0x0002) == Some(1) && terminal.read(0x0005) == Some(4));
     assert!(rt; terminal.write(DPSSTAT.address, 0));
     assert!(rt; terminal.poll() == Some(PollAnswer::Clean));

@@ -1,5 +1,5 @@
 -- From a call of the unit at one line to a step among all of them.
-use Rattle.std.proofs.Common.{◌≡◌, ℕ, ◌<◌, min, List, length, get_or, set, inl, inr, refl, ◌∙◌, arith}
+use Rattle.std.proofs.Common.{◌≡◌, ℕ, ◌<◌, min, List, length, get_or, set, slice_get, inl, inr, refl, ◌∙◌, arith}
 use Rattle.codes.specs.declared.attachment.Attachment.{Attachment}
 use Rattle.codes.specs.declared.number.Refusal.TheVariants.{PortTooHigh}
 use Rattle.line.specs.State.{State}
@@ -25,20 +25,20 @@ refused_alike m (expedite response) t u = refl
 refused_alike m (fetch address long buffer) t u = refl
 refused_alike m drop t u = refl
 
-module _ {S : Type 0} (tells : S → State) (always : (s : S) → Lawful (tells s)) (m : Attachment) (p i : ℕ) (q : Asked) (ks : List Port) (xs : List S) (d : S) (a : AnswerTo q) (ks' : List Port) (s' : S) where
+module _ {S : Type 0} {tells : S → State} (always : (s : S) → Lawful (tells s)) (xs : List S) (i : ℕ) (d : S) {m : Attachment} {p : ℕ} {q : Asked} {ks : List Port} {a : AnswerTo q} {ks' : List Port} {s' : S} where
   at_its_line : i < length xs → i ≡ p → Here m p q ks (tells (get_or xs i d)) a ks' (tells s') → Step m p q ks (told tells xs) a ks' (told tells (set xs i s'))
   at_its_line h e x =
       let before : told tells xs p ≡ tells (get_or xs i d) = rw (← e) (told_at tells xs i d h) in
       let after : told tells (set xs i s') p ≡ tells s' = rw (← e) (told_set tells xs i s' h) in
       record {
-        lawful = told_lawful tells always xs p;
+        lawful = told_lawful tells always (slice_get xs p);
         call = rw (before, after) (inl x);
         spared = λ r n. told_other tells xs i r s' (λ z. n (z ∙ e));
       }
 
   at_no_port : Nowhere m p q ks (tells (get_or xs i d)) a ks' (tells s') → Step m p q ks (told tells xs) a ks' (told tells (set xs i s'))
   at_no_port x = record {
-    lawful = told_lawful tells always xs p;
+    lawful = told_lawful tells always (slice_get xs p);
     call = inr (record {
       past = x.past;
       refused = x.refused ∙ refused_alike m q (tells (get_or xs i d)) (told tells xs p);
@@ -52,5 +52,5 @@ module _ {S : Type 0} (tells : S → State) (always : (s : S) → Lawful (tells 
   by_outcome h k e (inl x) = let b = x.there in at_its_line (omega arith) (omega arith) x
   by_outcome h k e (inr x) = at_no_port x
 
-  pub stepped : (step : Sends S) → length xs ≡ 32 → length ks ≡ 32 → i ≡ min p 31 → DoneAt step tells m p q ks (get_or xs i d) a ks' s' → Step m p q ks (told tells xs) a ks' (told tells (set xs i s'))
-  stepped step h k e x = by_outcome h k e x.outcome
+  pub stepped : {step : Sends S} → length xs ≡ 32 → length ks ≡ 32 → i ≡ min p 31 → DoneAt step tells m p q ks (get_or xs i d) a ks' s' → Step m p q ks (told tells xs) a ks' (told tells (set xs i s'))
+  stepped h k e x = by_outcome h k e x.outcome

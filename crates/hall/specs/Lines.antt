@@ -1,5 +1,6 @@
 -- What each line of a hall tells, by the number of its port.
-use Rattle.std.specs.Prelude.{◌≡◌, ◌≢◌, ℕ, zero, suc, List, [], ◌∷◌, Some, true, false, replicate, slice_get}
+use Rattle.std.specs.Prelude.{◌≡◌, ◌≢◌, ℕ, List, Some, true, false, replicate, slice_get}
+use Rattle.std.specs.Option.{option_map_or}
 use Rattle.line.specs.State.{State}
 use Rattle.counts.specs.Run.{Lines}
 
@@ -11,9 +12,7 @@ nowhere = record {
 }
 
 abbrev pub told : {L : Type 0} → (L → State) → List L → Lines
-told f [] p = nowhere
-told f (x ∷ xs) zero = f x
-told f (x ∷ xs) (suc p) = told f xs p
+told f xs p = option_map_or f (slice_get xs p) nowhere
 
 -- what holds of the line with a number, as it was and as it is
 abbrev pub OfLine : {L : Type 0} → ℕ → List L → List L → (L → L → Type 0) → Type 0

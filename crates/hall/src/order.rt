@@ -1,8 +1,10 @@
 // One call of a list, with its arguments, and what it answers.
-use ports::answers::{
-    Attached, Collected, Configured, Dropped, Expedited, Fetched, Polled, Requested, Taken,
-};
+use codes::number::Refusal;
+use ports::answers::{AttachFailure, Failure, Handed};
+use ports::disconnection::Disconnection;
+use ports::port::Marks;
 use tca::request::Request;
+use tca::status::{ExpeditedStatus, SynchronousStatus};
 
 // The port is the first of each but turn. A fetch reads into the buffer that the whole list shares.
 #[derive(Clone, Copy)]
@@ -21,14 +23,14 @@ pub enum Order<'a> {
 
 #[derive(Clone, Copy)]
 pub enum Answered {
-    Configured(Configured),
-    Attached(Attached),
+    Configured(Result<(), Refusal>),
+    Attached(Result<(), AttachFailure>),
     Turned(Option<u8>),
-    Polled(Polled),
-    Requested(Requested),
-    Collected(Collected),
-    Taken(Taken),
-    Expedited(Expedited),
-    Fetched(Fetched),
-    Dropped(Dropped),
+    Polled(Result<Marks, Failure>),
+    Requested(Result<(), Failure>),
+    Collected(Result<SynchronousStatus, Failure>),
+    Taken(Result<Handed, Failure>),
+    Expedited(Result<ExpeditedStatus, Failure>),
+    Fetched(Result<(), Failure>),
+    Dropped(Result<Disconnection, Refusal>),
 }

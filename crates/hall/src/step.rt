@@ -7,7 +7,8 @@ ghost use Rattle.unit.specs.Units.{beside};
 ghost use Rattle.hall.specs.Lines.{told, OfLine, OthersStay};
 
 use line::Line;
-use ports::answers::Polled;
+use ports::answers::Failure;
+use ports::port::Marks;
 use unit::unit::Unit;
 
 // The line of a port; one that is refused for its number is handed the last, and leaves it.
@@ -17,7 +18,7 @@ fn line_of(port: u8) -> usize
     usize::from(port.min(31))
 }
 
-pub fn poll<L: Line>(unit: &mut Unit, lines: &mut [L; 32], port: u8) -> Polled
+pub fn poll<L: Line>(unit: &mut Unit, lines: &mut [L; 32], port: u8) -> Result<Marks, Failure>
     ensures step { Step unit.old.attachment port to_poll unit.old.table.ports (told L.Line.state lines.old) result unit.new.table.ports (told L.Line.state lines.new) }
     ensures outcome { OfLine (min port 31) lines.old lines.new (λ s t. DoneAt L.Line.step L.Line.state unit.old.attachment port to_poll unit.old.table.ports s result unit.new.table.ports t) }
     ensures others { OthersStay (min port 31) lines.old lines.new }

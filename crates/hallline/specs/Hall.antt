@@ -6,10 +6,9 @@ use Rattle.line.specs.declared.command.Command.{Command}
 use Rattle.line.specs.declared.command.Reply.{Reply}
 use Rattle.line.specs.State.{State}
 use Rattle.simulated.specs.Simulated.{state_of}
-use Rattle.lines.specs.Terminal.{own as terminal_own, with_told_event, with_told_end, next as terminal_next, answers as terminal_answers, Own as TerminalOwn, Steps as TerminalSteps}
-use Rattle.lines.specs.declared.terminal.Terminal.{Terminal as TerminalLine}
-use Rattle.lines.specs.Printer.{own as printer_own, next as printer_next, answers as printer_answers, Own as PrinterOwn, Steps as PrinterSteps}
-use Rattle.lines.specs.declared.printer.Printer.{Printer as PrinterLine}
+use Rattle.lines.specs.DeviceLine.{own as device_own}
+use Rattle.lines.specs.Terminal.{Terminal as TerminalLine, with_told_event, with_told_end, next as terminal_next, answers as terminal_answers, TerminalOwn, Steps as TerminalSteps}
+use Rattle.lines.specs.Printer.{Printer as PrinterLine, next as printer_next, answers as printer_answers, PrinterOwn, Steps as PrinterSteps}
 use Rattle.losing.specs.Loss.{Loses, told_over, OwnOver, next_over, answers_over, shows_over}
 use Rattle.losing.specs.declared.losing.Losing.{Losing}
 use Rattle.hallline.specs.declared.HallLine.{HallLine}
@@ -44,7 +43,7 @@ Within T P Lt LP (LosingPrinter s) (LosingPrinter t) = LP s t
 
 -- what a losing line does over a line with these steps
 abbrev pub LosingSteps : {L : Type 0} → (L → Command → Option Reply → L → Type 0) → Losing L → Command → Option Reply → Losing L → Type 0
-LosingSteps step s c r t = Loses step s.marks s.next s.row s.below c r t.below t.marks t.next t.row
+LosingSteps step s c r t = Loses (λ s r t. step s c r t) s.marks s.next s.row s.below r t.below t.marks t.next t.row
 
 -- one sending
 abbrev pub Steps : HallLine → Command → Option Reply → HallLine → Type 0
@@ -66,10 +65,10 @@ abbrev pub Told : (TerminalLine → TerminalLine → Type 0) → HallLine → Ha
 Told related s t = Within related (λ s t. t ≡ s) (Below related) (λ s t. t ≡ s) s t
 
 abbrev pub EventTold : HallLine → Event → HallLine → Type 0
-EventTold s e t = Told (λ s t. terminal_own t ≡ with_told_event e (terminal_own s)) s t
+EventTold s e t = Told (λ s t. device_own t ≡ with_told_event e (device_own s)) s t
 
 abbrev pub EndTold : HallLine → SynchronousStatus → HallLine → Type 0
-EndTold s e t = Told (λ s t. terminal_own t ≡ with_told_end e (terminal_own s)) s t
+EndTold s e t = Told (λ s t. device_own t ≡ with_told_end e (device_own s)) s t
 
 -- what it keeps of itself, by kind
 pub data Own : Type 0 where
@@ -82,10 +81,10 @@ abbrev pub own_over : {L O : Type 0} → (L → O) → Losing L → OwnOver O
 own_over own s = record { below = own s.below; marks = s.marks; next = s.next; row = s.row }
 
 abbrev pub own : HallLine → Own
-own (Terminal s) = terminal (terminal_own s)
-own (Printer s) = printer (printer_own s)
-own (LosingTerminal s) = losing_terminal (own_over terminal_own s)
-own (LosingPrinter s) = losing_printer (own_over printer_own s)
+own (Terminal s) = terminal (device_own s)
+own (Printer s) = printer (device_own s)
+own (LosingTerminal s) = losing_terminal (own_over device_own s)
+own (LosingPrinter s) = losing_printer (own_over device_own s)
 
 abbrev pub shows : Own → State
 shows (terminal o) = o.state

@@ -6,12 +6,12 @@ use Rattle.line.specs.declared.command.Reply.{Reply}
 use Rattle.line.specs.Rules.{Permitted, Lawful}
 use Rattle.simulated.specs.Simulated.{state_of}
 use Rattle.simulated.specs.declared.device.SimulatedDevice.{SimulatedDevice}
-use Rattle.lines.specs.Terminal.{own as terminal_own, next as terminal_next, answers as terminal_answers, Steps as TerminalSteps}
-use Rattle.lines.specs.declared.terminal.Terminal.{Terminal as TerminalLine}
-use Rattle.lines.specs.Terminals.{keeps as terminal_keeps}
-use Rattle.lines.specs.Printer.{own as printer_own, next as printer_next, answers as printer_answers, Steps as PrinterSteps}
-use Rattle.lines.specs.declared.printer.Printer.{Printer as PrinterLine}
-use Rattle.lines.specs.Printers.{keeps as printer_keeps}
+use Rattle.lines.specs.DeviceLine.{own as device_own}
+use Rattle.lines.specs.DeviceLines.{keeps as device_keeps}
+use Rattle.lines.specs.Terminal.{Terminal as TerminalLine, next as terminal_next, answers as terminal_answers, Steps as TerminalSteps, acts as terminal_acts, kept as terminal_kept, takes as terminal_takes}
+use Rattle.lines.specs.Terminals.{allowed as terminal_allowed}
+use Rattle.lines.specs.Printer.{Printer as PrinterLine, next as printer_next, answers as printer_answers, Steps as PrinterSteps, acts as printer_acts, kept as printer_kept, takes as printer_takes}
+use Rattle.lines.specs.Printers.{allowed as printer_allowed}
 use Rattle.losing.specs.declared.losing.Losing.{Losing}
 use Rattle.losing.specs.Losses.{keeps_over, lawful_over, determined_over}
 use Rattle.hallline.specs.declared.HallLine.{HallLine}
@@ -41,6 +41,12 @@ module _ {T : TerminalLine → TerminalLine → Type 0} {P : PrinterLine → Pri
   within_each (LosingPrinter s) (LosingTerminal t) w = absurd w
   within_each (LosingPrinter s) (LosingPrinter t) w = k s t w
 
+pub terminal_keeps : (s t : TerminalLine) (c : Command) (r : Option Reply) → TerminalSteps s c r t → Permitted (state_of s.device) c r (state_of t.device)
+terminal_keeps = device_keeps terminal_acts terminal_kept terminal_takes terminal_allowed
+
+pub printer_keeps : (s t : PrinterLine) (c : Command) (r : Option Reply) → PrinterSteps s c r t → Permitted (state_of s.device) c r (state_of t.device)
+printer_keeps = device_keeps printer_acts printer_kept printer_takes printer_allowed
+
 device_lawful : (d : SimulatedDevice) → Lawful (state_of d)
 device_lawful d = search rules
 
@@ -65,10 +71,10 @@ determined s t c r w =
     (λ s t w. (ap terminal w.0, w.1))
     (λ s t w. (ap printer w.0, w.1))
     (λ s t w.
-    let d = determined_over TerminalSteps terminal_own terminal_next terminal_answers (λ s t c r w. w) s.marks s.next s.row s.below c r t.below t.marks t.next t.row w in
+    let d = determined_over TerminalSteps device_own terminal_next terminal_answers (λ s t c r w. w) s.marks s.next s.row s.below c r t.below t.marks t.next t.row w in
     (ap losing_terminal d.0, d.1))
     (λ s t w.
-    let d = determined_over PrinterSteps printer_own printer_next printer_answers (λ s t c r w. w) s.marks s.next s.row s.below c r t.below t.marks t.next t.row w in
+    let d = determined_over PrinterSteps device_own printer_next printer_answers (λ s t c r w. w) s.marks s.next s.row s.below c r t.below t.marks t.next t.row w in
     (ap losing_printer d.0, d.1))
     s t w
 

@@ -13,7 +13,8 @@ use line::tellable::Tellable;
 use line::telling::{Telling, Tells};
 use tca::status::{Event, SynchronousStatus};
 
-// The one text for all that is handed on to the line inside, whichever it is.
+// The one text for all that is handed on to the line inside. A macro, since a closure takes a line of one type
+// alone, and no function may hand out a `dyn`.
 macro_rules! hand_on {
     ($hall:ident, $line:ident, $does:expr) => {
         match $hall {
@@ -25,37 +26,38 @@ macro_rules! hand_on {
     };
 }
 
-// What is told goes to a terminal, past the coax. A printer posts of itself, so that nothing is told to it.
-macro_rules! tell {
-    ($hall:ident, $line:ident, $telling:expr) => {
-        match $hall {
-            HallLine::Terminal($line) => {
-                $telling;
-                true
-            }
-            HallLine::LosingTerminal($line) => {
-                $telling;
-                true
-            }
-            HallLine::Printer(_) | HallLine::LosingPrinter(_) => false,
-        }
-    };
-}
-
-// A line of a hall is not `Tellable`, since some are not: what is returned says whether this one is.
+// A line of a hall is not `Tellable`, since a printer posts of itself: what is returned says whether this one is.
 impl HallLine {
+    fn is_told(&self) -> bool
+        ensures { result ≡ is_told self.now }
+    {
+        matches!(self, HallLine::Terminal(_) | HallLine::LosingTerminal(_))
+    }
+
     pub fn tell_event(&mut self, event: Event) -> bool
         ensures value { result ≡ is_told self.old }
         ensures after { EventTold self.old event self.new }
     {
-        tell!(self, line, line.tell_event(event))
+        let told = self.is_told();
+        match self {
+            HallLine::Terminal(line) => line.tell_event(event),
+            HallLine::LosingTerminal(line) => line.tell_event(event),
+            HallLine::Printer(_) | HallLine::LosingPrinter(_) => {}
+        }
+        told
     }
 
     pub fn tell_end(&mut self, end: SynchronousStatus) -> bool
         ensures value { result ≡ is_told self.old }
         ensures after { EndTold self.old end self.new }
     {
-        tell!(self, line, line.tell_end(end))
+        let told = self.is_told();
+        match self {
+            HallLine::Terminal(line) => line.tell_end(end),
+            HallLine::LosingTerminal(line) => line.tell_end(end),
+            HallLine::Printer(_) | HallLine::LosingPrinter(_) => {}
+        }
+        told
     }
 }
 

@@ -23,29 +23,23 @@ pub fn settle_event<L: Line>(line: &mut L, verdict: Verdict, event: Event) -> Re
     ensures { Performs L.Line.step (settles verdict (event_bytes event)) line.old (as_bytes event_bytes result) line.new }
 {
     match verdict {
-        Verdict::NotAllowed => {
-            reset(line);
-            Ok(event)
-        }
-        Verdict::Allowed(_) => {
-            write(line, DPASTAT.address, 0)?;
-            Ok(event)
-        }
+        Verdict::NotAllowed => reset(line),
+        Verdict::Allowed(_) => write(line, DPASTAT.address, 0)?,
         Verdict::PermanentError => {
             write(line, DPASTAT.address, 0)?;
             reset(line);
-            Ok(event)
         }
     }
+    Ok(event)
 }
 
 // The response stands before EXFAK is cleared, and Terminal ID lets the device look at it.
 pub fn expedite<L: Line>(line: &mut L, response: [u8; 4]) -> Result<ExpeditedStatus, Silence>
     ensures { Performs L.Line.step (expedites response) line.old (as_bytes expedited_bytes result) line.new }
 {
-    let status = read_status::<Expedited, L>(line)?;
+    let status = read_status::<Expedited, 6, L>(line)?;
     write_row(line, &RESPONSE_PLACES, &response)?;
     write(line, EXFAK.address, 0)?;
-    let _ = send(line, Command::TerminalId)?;
+    send(line, Command::TerminalId)?;
     Ok(status)
 }

@@ -1,26 +1,18 @@
 -- Which texts spell a row, and which row.
-use Rattle.std.proofs.Common.{◌≡◌, ℕ, zero, suc, ◌+◌, ◌*◌, ◌<◌, Bool, true, false, ◌&&◌, List, [], ◌∷◌, length, get_or, drop, is_some, Some, None, Option, unwrap_or, sym, refl, ◌∙◌, add-one, arith, drop-cons}
-use lib.Seq.{drop-length}
-use Rattle.hexadecimal.specs.Hex.{digit_value, value_or_zero, byte_in, before, row_in, all_digits}
+use Rattle.std.proofs.Common.{◌≡◌, ℕ, zero, suc, ◌*◌, ◌/◌, ◌<◌, Bool, true, false, ◌&&◌, List, [], ◌∷◌, length, get_or, is_some, Some, None, Option, refl, arith}
+use Rattle.std.proofs.Math.Bool.{and_assoc, and-false}
+use Rattle.std.specs.Simd.{first_chunks}
+use Rattle.hexadecimal.specs.Hex.{byte_in, pair_byte, before, row_in, all_digits}
 
--- one more character of a text
-digits_from : (text : List ℕ) (i : ℕ) → i < length text → all_digits (drop i text) ≡ (is_some (digit_value (get_or text i 0)) && all_digits (drop (suc i) text))
-digits_from text i h = rw (drop-cons text i 0) refl
+both : (p : Option ℕ) (r : Option (List ℕ)) → is_some (before p r) ≡ (is_some p && is_some r)
+both None r = refl
+both (Some b) None = refl
+both (Some b) (Some bs) = refl
 
-pub digit_next : (text : List ℕ) (i : ℕ) → i < length text → is_some (digit_value (get_or text i 0)) ≡ true → all_digits (drop i text) ≡ all_digits text → all_digits (drop (i + 1) text) ≡ all_digits text
-digit_next text i h e inv = let f = rw e at (digits_from text i h) in rw (add-one i) (sym f ∙ inv)
-
-pub not_digit_next : (text : List ℕ) (i : ℕ) → i < length text → is_some (digit_value (get_or text i 0)) ≡ false → all_digits (drop i text) ≡ all_digits text → false ≡ all_digits text
-not_digit_next text i h e inv = let f = rw e at (digits_from text i h) in sym f ∙ inv
-
-pub digits_all : (text : List ℕ) (i : ℕ) → i ≡ length text → all_digits (drop i text) ≡ all_digits text → true ≡ all_digits text
-digits_all text i h inv = rw (h, drop-length text) at inv
-
-in_front : (p q : Option ℕ) (r : Option (List ℕ)) (b : Bool) → is_some r ≡ b → is_some (before (byte_in p q) r) ≡ (is_some p && (is_some q && b))
-in_front None q r b e = refl
-in_front (Some h) None r b e = refl
-in_front (Some h) (Some l) None b e = e
-in_front (Some h) (Some l) (Some bs) b e = e
+both_digits : (p q : Option ℕ) → is_some (byte_in p q) ≡ (is_some p && is_some q)
+both_digits None q = refl
+both_digits (Some h) None = refl
+both_digits (Some h) (Some l) = refl
 
 -- a text of the right length spells a row if it is all digits
 pub right_length : (n : ℕ) (text : List ℕ) → length text ≡ 2 * n → is_some (row_in n text) ≡ all_digits text
@@ -28,42 +20,42 @@ right_length zero [] e = refl
 right_length zero (d ∷ text) e = absurd (omega arith)
 right_length (suc n) [] e = absurd (omega arith)
 right_length (suc n) (h ∷ []) e = absurd (omega arith)
-right_length (suc n) (h ∷ l ∷ text) e = in_front (digit_value h) (digit_value l) (row_in n text) (all_digits text) (right_length n text (omega arith))
-
-nothing_behind : (p q : Option ℕ) (r : Option (List ℕ)) → is_some r ≡ false → is_some (before (byte_in p q) r) ≡ false
-nothing_behind None q r e = refl
-nothing_behind (Some h) None r e = refl
-nothing_behind (Some h) (Some l) None e = refl
-nothing_behind (Some h) (Some l) (Some bs) e = e
+right_length (suc n) (h ∷ l ∷ text) e = rw (both, both_digits, and_assoc, right_length n text (omega arith)) refl
 
 pub wrong_length : (n : ℕ) (text : List ℕ) → (length text ≡ 2 * n → ⊥) → is_some (row_in n text) ≡ false
 wrong_length zero [] e = absurd (e refl)
 wrong_length zero (d ∷ text) e = refl
 wrong_length (suc n) [] e = refl
 wrong_length (suc n) (h ∷ []) e = refl
-wrong_length (suc n) (h ∷ l ∷ text) e = nothing_behind (digit_value h) (digit_value l) (row_in n text) (wrong_length n text (λ same. e (omega arith)))
+wrong_length (suc n) (h ∷ l ∷ text) e = rw (both, wrong_length n text (λ same. e (omega arith)), and-false) refl
 
-joined : (p q : Option ℕ) (r : Option (List ℕ)) (b : ℕ) (bs : List ℕ) → is_some (before (byte_in p q) r) ≡ true → b ≡ unwrap_or p 0 * 16 + unwrap_or q 0 → (is_some r ≡ true → r ≡ Some bs) → before (byte_in p q) r ≡ Some (b ∷ bs)
-joined None q r b bs e f more = let z : ◌≡◌ {A = ℕ} 0 1 = cc in absurd (omega arith)
-joined (Some h) None r b bs e f more = let z : ◌≡◌ {A = ℕ} 0 1 = cc in absurd (omega arith)
-joined (Some h) (Some l) None b bs e f more = let z : ◌≡◌ {A = ℕ} 0 1 = cc in absurd (omega arith)
-joined (Some h) (Some l) (Some cs) b bs e f more = let same = more refl in cc
+parts : (a b : Bool) → (a && b) ≡ true → (a ≡ true) × (b ≡ true)
+parts true b e = (refl, e)
+parts false b e = let z : false ≡ true = e in cc
 
--- the byte that stands at a place of the row
-abbrev pub byte_at : List ℕ → ℕ → ℕ
-byte_at text k = value_or_zero (get_or text (2 * k) 0) * 16 + value_or_zero (get_or text (2 * k + 1) 0)
+-- each pair of a text that spells a row is a byte
+some_at : (n : ℕ) (text : List ℕ) (k : ℕ) (d : List ℕ) → is_some (row_in n text) ≡ true → k < n → is_some (pair_byte (get_or (first_chunks 2 n text) k d)) ≡ true
+unfolding pair_byte
+some_at zero text k d e h = absurd (omega arith)
+some_at (suc n) [] k d e h = let z : false ≡ true = e in cc
+some_at (suc n) (c ∷ []) k d e h = let z : false ≡ true = e in cc
+some_at (suc n) (c ∷ l ∷ text) zero d e h = (parts _ _ (rw both at e)).0
+some_at (suc n) (c ∷ l ∷ text) (suc k) d e h = some_at n text k d (parts _ _ (rw both at e)).1 (omega arith)
 
-byte_further : (h l : ℕ) (text : List ℕ) (k : ℕ) → byte_at (h ∷ l ∷ text) (suc k) ≡ byte_at text k
-byte_further h l text k =
-    let e : 2 * suc k ≡ suc (suc (2 * k)) = omega arith in
-    let f : 2 * suc k + 1 ≡ suc (suc (2 * k + 1)) = omega arith in
-    rw (f, e) refl
+pub pair_is_byte : (n k : ℕ) (text : List ℕ) (pairs : List (List ℕ)) → pairs ≡ first_chunks 2 (length text / 2) text → length text ≡ 2 * n → k < n → is_some (row_in n text) ≡ true → is_some (pair_byte (get_or pairs k [])) ≡ true
+pair_is_byte n k text pairs e long h some = let half : length text / 2 ≡ n = omega arith in rw (e, half) (some_at n text k [] some h)
 
-pub row_filled : (bs text : List ℕ) → is_some (row_in (length bs) text) ≡ true → ((k : ℕ) → k < length bs → get_or bs k 0 ≡ byte_at text k) → row_in (length bs) text ≡ Some bs
-row_filled [] [] e f = refl
-row_filled [] (d ∷ text) e f = let z : ◌≡◌ {A = ℕ} 0 1 = cc in absurd (omega arith)
-row_filled (b ∷ bs) [] e f = let z : ◌≡◌ {A = ℕ} 0 1 = cc in absurd (omega arith)
-row_filled (b ∷ bs) (h ∷ []) e f = let z : ◌≡◌ {A = ℕ} 0 1 = cc in absurd (omega arith)
-row_filled (b ∷ bs) (h ∷ l ∷ text) e f =
-    joined (digit_value h) (digit_value l) (row_in (length bs) text) b bs e (f 0 (omega arith))
-    (λ some. row_filled bs text some (λ k below. f (suc k) (omega arith) ∙ byte_further h l text k))
+filled : (bs text : List ℕ) → length text ≡ 2 * length bs → ((k : ℕ) → k < length bs → pair_byte (get_or (first_chunks 2 (length bs) text) k []) ≡ Some (get_or bs k 0)) → row_in (length bs) text ≡ Some bs
+unfolding pair_byte
+filled [] [] e f = refl
+filled [] (d ∷ text) e f = absurd (omega arith)
+filled (b ∷ bs) [] e f = absurd (omega arith)
+filled (b ∷ bs) (h ∷ []) e f = absurd (omega arith)
+filled (b ∷ bs) (h ∷ l ∷ text) e f =
+    rw (f 0 (omega arith), filled bs text (omega arith) (λ k below. f (suc k) (omega arith))) refl
+
+-- a text whose pairs are the bytes of a row spells it
+pub row_filled : (bs text : List ℕ) (pairs : List (List ℕ)) → pairs ≡ first_chunks 2 (length text / 2) text → length text ≡ 2 * length bs → ((k : ℕ) → k < length bs → pair_byte (get_or pairs k []) ≡ Some (get_or bs k 0)) → row_in (length bs) text ≡ Some bs
+row_filled bs text pairs e long each =
+    let half : length text / 2 ≡ length bs = omega arith in
+    filled bs text long (rw (e, half) at each)

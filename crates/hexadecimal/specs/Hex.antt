@@ -1,13 +1,10 @@
 -- Upper-case hexadecimal digits, and the bytes that a text of them spells.
-use Rattle.std.specs.Prelude.{ℕ, zero, suc, ◌+◌, ◌-◌, ◌*◌, ◌/◌, ◌%◌, Bool, true, cond, ◌&&◌, List, [], ◌∷◌, is_some, Some, None, Option, nat_le, nat_lt}
-use Rattle.std.specs.Option.{unwrap_or}
+use Rattle.std.specs.Prelude.{ℕ, zero, suc, ◌+◌, ◌-◌, ◌*◌, ◌/◌, ◌%◌, Bool, cond, ◌&&◌, List, [], ◌∷◌, is_some, Some, None, Option, nat_le, nat_lt, slice_index}
+use Rattle.std.specs.List.{list_all}
 
 -- '0' to '9' count 0 to 9, 'A' to 'F' 10 to 15
 abbrev pub digit_value : ℕ → Option ℕ
 digit_value d = cond (nat_le 48 d && nat_le d 57) (Some (d - 48)) (cond (nat_le 65 d && nat_le d 70) (Some (d - 55)) None)
-
-abbrev pub value_or_zero : ℕ → ℕ
-value_or_zero d = unwrap_or (digit_value d) 0
 
 -- the digit of the low four bits
 abbrev pub digit_of : ℕ → ℕ
@@ -23,6 +20,10 @@ byte_in None low = None
 byte_in (Some high) None = None
 byte_in (Some high) (Some low) = Some (high * 16 + low)
 
+-- the byte of a pair of digits, the high one first
+unfoldable pub pair_byte : List ℕ → Option ℕ
+pair_byte pair = byte_in (digit_value (slice_index pair 0)) (digit_value (slice_index pair 1))
+
 abbrev pub before : Option ℕ → Option (List ℕ) → Option (List ℕ)
 before None bs = None
 before (Some b) None = None
@@ -37,5 +38,4 @@ row_in (suc n) (high ∷ []) = None
 row_in (suc n) (high ∷ low ∷ text) = before (byte_in (digit_value high) (digit_value low)) (row_in n text)
 
 abbrev pub all_digits : List ℕ → Bool
-all_digits [] = true
-all_digits (d ∷ text) = is_some (digit_value d) && all_digits text
+all_digits text = list_all (λ d. is_some (digit_value d)) text

@@ -1,9 +1,9 @@
 // Upper-case hexadecimal: digits, bytes and rows of bytes.
 #![tactic(auto)]
 
-ghost use Rattle.std.specs.Prelude.{◌≡◌, ◌*◌, true, [], ◌∷◌, length, is_some, Some, None, MatchResult};
+ghost use Rattle.std.specs.Prelude.{◌≡◌, ◌*◌, true, [], ◌∷◌, length, is_some, Some, None, MatchResult, OnOk};
 ghost use Rattle.codes.specs.declared.number.Refusal.TheVariants.{Malformed};
-ghost use Rattle.hexadecimal.specs.Hex.{digit_value, value_or_zero, digit_of, spelled, row_in, all_digits};
+ghost use Rattle.hexadecimal.specs.Hex.{digit_value, pair_byte, digit_of, spelled, row_in, all_digits};
 
 use codes::number::Refusal;
 
@@ -38,45 +38,57 @@ pub fn encode(byte: u8) -> [u8; 2]
     [digit(byte / 16), digit(byte)]
 }
 
-fn value_or_zero(digit: u8) -> u8
-    ensures { result ≡ value_or_zero digit }
+// The byte of two digits, the high one first.
+#[tactic(auto, unfolding(crate::specs::Hex::pair_byte))]
+fn byte(pair: [u8; 2]) -> Option<u8>
+    ensures { result ≡ pair_byte pair }
 {
-    value(digit).unwrap_or(0)
+    let [high, low] = pair;
+    Some(value(high)? * 16 + value(low)?)
 }
 
 fn is_all_digits(text: &[u8]) -> bool
     ensures { result ≡ all_digits text.now }
 {
-    for character in text {
-        if value(*character).is_none() {
-            return false;
-        }
-    }
-    true
+    text.iter().all(|digit| value(*digit).is_some())
 }
 
+#[tactic(auto, using(crate::proofs::Rows::right_length, crate::proofs::Rows::wrong_length))]
 fn is_row(text: &[u8], count: usize) -> bool
     ensures value { result ≡ is_some (row_in count text.now) }
     ensures long { result ≡ true → length text.now ≡ 2 * count }
 {
-    if text.len() / 2 != count || text.len() % 2 != 0 {
-        return false;
-    }
-    is_all_digits(text)
+    text.len() / 2 == count && text.len() % 2 == 0 && is_all_digits(text)
 }
 
 // Fills `bytes` from exactly two digits for each of its places, the high digit first. Any other text is
 // refused, and `bytes` then stays as it is.
+#[tactic(auto, using(crate::proofs::Rows::row_filled))]
 pub fn decode(text: &[u8], bytes: &mut [u8]) -> Result<(), Refusal>
-    ensures { MatchResult result
+    ensures value { MatchResult result
         (λ _. row_in (length bytes.old) text.now ≡ Some bytes.new)
         (λ e. (e ≡ Malformed) × (row_in (length bytes.old) text.now ≡ None) × (bytes.new ≡ bytes.old)) }
+    ensures long { OnOk result (length text.now ≡ 2 * length bytes.old) }
 {
     if !is_row(text, bytes.len()) {
         return Err(Refusal::Malformed);
     }
-    for n in 0..bytes.len() {
-        bytes[n] = value_or_zero(text[2 * n]) * 16 + value_or_zero(text[2 * n + 1]);
+    let (pairs, _) = text.as_chunks::<2>();
+    // by index: a proof does not see what a zip with `iter_mut` writes
+    for (n, pair) in pairs.iter().enumerate() {
+        bytes[n] = byte(*pair).unwrap();
     }
     Ok(())
+}
+
+// The same into an array of its own.
+pub fn decode_array<const N: usize>(text: &[u8]) -> Result<[u8; N], Refusal>
+    ensures value { MatchResult result
+        (λ bytes. row_in N text.now ≡ Some bytes)
+        (λ e. (e ≡ Malformed) × (row_in N text.now ≡ None)) }
+    ensures long { OnOk result (length text.now ≡ 2 * N) }
+{
+    let mut bytes = [0; N];
+    decode(text, &mut bytes)?;
+    Ok(bytes)
 }

@@ -1,6 +1,8 @@
 -- What the rules imply, by cases on the command.
-use Rattle.std.proofs.Common.{◌≡◌, ℕ, ◌+◌, ◌%◌, ◌^◌, ◌<◌, ◌≤◌, min, Bool, true, false, cond, ◌&&◌, ◌||◌, eqb, ltb, List, length, get_or, set, sym, refl, ap, ◌∙◌, arith, length-set, get_or-set_other, get_or-set_same, set-set, eq-eqb, eqb-true}
+use Rattle.std.proofs.Common.{◌≡◌, ℕ, ◌+◌, ◌%◌, ◌^◌, ◌<◌, ◌≤◌, min, Bool, true, false, cond, ◌&&◌, eqb, ltb, List, length, get_or, set, sym, refl, ap, ◌∙◌, arith, length-set, get_or-set_other, get_or-set_same, set-set, eq-eqb, eqb-true}
 use borrow.Author.Tests.{clash, eqb-false}
+use Rattle.std.proofs.lemmas.Bool.{and_parts}
+use Rattle.std.proofs.Math.Bool.{or-false}
 use Rattle.tca.specs.Fields.{dpastat, dpsstat, exfak, cusyn}
 use Rattle.line.specs.declared.command.Command.{Command}
 use Rattle.line.specs.declared.command.Command.TheVariants.{Poll, Read, Write, Start, Acknowledge, TerminalId, Reset}
@@ -69,14 +71,6 @@ ran_new ch d big w n =
       exfak_zero = remake_at f d.memory exfak (omega arith) ∙ rw w n.exfak_zero;
     }
 
-and_right : (p q : Bool) → (p && q) ≡ true → q ≡ true
-and_right true q e = e
-and_right false q e = absurd (clash e)
-
-or_false : (p : Bool) → (p || false) ≡ true → p ≡ true
-or_false true e = refl
-or_false false e = e
-
 -- a byte that is zero stays so under a write elsewhere, or of zero
 zero_stays : (b : Bool) (m : List ℕ) (a v t : ℕ) → eqb t a ≡ b → t < length m → (a ≡ t → v ≡ 0) → get_or m t 0 ≡ 0 → get_or (set m a v) t 0 ≡ 0
 zero_stays true m a v t e h f z =
@@ -87,13 +81,13 @@ zero_stays false m a v t e h f z = get_or-set_other m a t v 0 (eqb-false t a e) 
 -- what is heard at a toggle is a zero
 module _ (n v : ℕ) where
   only_zero_0 : may_write n dpastat v ≡ true → v ≡ 0
-  only_zero_0 e = eqb-true v 0 (or_false (eqb v 0) (and_right (ltb dpastat n) _ e))
+  only_zero_0 e = eqb-true v 0 (sym (or-false (eqb v 0)) ∙ (and_parts (ltb dpastat n) _ e).1)
 
   only_zero_1 : may_write n dpsstat v ≡ true → v ≡ 0
-  only_zero_1 e = eqb-true v 0 (or_false (eqb v 0) (and_right (ltb dpsstat n) _ e))
+  only_zero_1 e = eqb-true v 0 (sym (or-false (eqb v 0)) ∙ (and_parts (ltb dpsstat n) _ e).1)
 
   only_zero_26 : may_write n exfak v ≡ true → v ≡ 0
-  only_zero_26 e = eqb-true v 0 (or_false (eqb v 0) (and_right (ltb exfak n) _ e))
+  only_zero_26 e = eqb-true v 0 (sym (or-false (eqb v 0)) ∙ (and_parts (ltb exfak n) _ e).1)
 
 written_new : (a v : ℕ) (d : Device) → 256 ≤ length d.memory → may_write (length d.memory) a v ≡ true → New d → New (written a v d)
 written_new a v d big m n =

@@ -1,7 +1,8 @@
 -- A device whose program posts statuses of any of the three families, and does nothing else, keeps the
 -- rules.
-use Rattle.std.proofs.Common.{◌≡◌, ℕ, ◌+◌, ◌%◌, ◌^◌, ◌<◌, ◌≤◌, Bool, true, false, cond, ◌&&◌, eqb, List, ◌∷◌, length, get_or, sym, refl, ap, ◌∙◌, arith, length-set, get_or-set_other, get_or-set_same, ne_eqb}
+use Rattle.std.proofs.Common.{◌≡◌, ℕ, ◌+◌, ◌%◌, ◌^◌, ◌<◌, ◌≤◌, Bool, true, false, cond, not, ◌&&◌, eqb, List, ◌∷◌, length, get_or, sym, refl, ap, ◌∙◌, arith, length-set, get_or-set_other, get_or-set_same, ne_eqb}
 use borrow.Author.Tests.{clash, eqb-false}
+use Rattle.std.proofs.lemmas.Bool.{and_parts, and_from}
 use Rattle.tca.specs.Fields.{dpastat, dpsstat, exfak, event_places, synchronous_places, expedited_places, unit_half, data_area}
 use Rattle.line.specs.State.{Device, Choice, answered, at}
 use Rattle.line.specs.Rules.{is_in, act, counted, posts_event, posts_end, posts_expedited}
@@ -9,11 +10,18 @@ use Rattle.line.proofs.Acts.{Leaves, left}
 use Rattle.line.specs.Posts.{posted, put_row}
 use Rattle.line.proofs.Rows.{row_length, row_other, row_read, read_row, read_same, distinct, all_below, apart, beyond}
 
--- a value of zero posts nothing
-pub never : (r z : Bool) → (r && (z && false)) ≡ false
-never true true = refl
-never true false = refl
-never false z = refl
+-- A status is posted by X'01' where it is due and by 0 else, if it is due only where it may be posted.
+posts_due : (b ready zero : Bool) → (b ≡ true → (ready && zero) ≡ true) → (ready && (zero && not (eqb (cond b 1 0) 0))) ≡ b
+posts_due true true true h = refl
+posts_due true true false h = h refl
+posts_due true false z h = h refl
+posts_due false true true h = refl
+posts_due false true false h = refl
+posts_due false false z h = refl
+
+works_too : (w z k : Bool) → ((w && z) && k) ≡ true → ((w && k) && z) ≡ true
+works_too true z k e = let both = and_parts z k e in and_from k z both.1 both.0
+works_too false z k e = e
 
 -- one status, posted or not
 
@@ -113,19 +121,19 @@ module _ (d : Device) (event end expedited : Bool) (E S X : List ℕ) where
 
     -- what such a device is after it acted
     abbrev pub after_posts : Device
-    after_posts = record {
+    after_posts = record d {
       memory = third;
-      waiting = d.waiting;
       working = cond end false d.working;
-      seen = d.seen;
-      last = d.last;
-      taken = d.taken;
       events = cond event ((d.events + 1) % 2 ^ 32) d.events;
       expedited = cond expedited ((d.expedited + 1) % 2 ^ 32) d.expedited;
     }
 
-    pub acts : posts_event choice d ≡ event → posts_end choice d ≡ end → posts_expedited choice d ≡ expedited → act choice d ≡ after_posts
+    pub acts : (event ≡ true → (not d.waiting && eqb (at d dpastat) 0) ≡ true) → (end ≡ true → ((not d.waiting && eqb (at d dpsstat) 0) && d.working) ≡ true)
+        → (expedited ≡ true → (not d.waiting && eqb (at d exfak) 0) ≡ true) → act choice d ≡ after_posts
     unfolding act
     acts e s x =
         let m = left event end expedited choice d third leaves in
-        rw (e, s, x, m, count event d.events, count expedited d.expedited) refl
+        let event_due : posts_event choice d ≡ event = posts_due event (not d.waiting) (eqb (at d dpastat) 0) e in
+        let end_due : posts_end choice d ≡ end = posts_due end (not d.waiting && d.working) (eqb (at d dpsstat) 0) (λ h. works_too (not d.waiting) _ d.working (s h)) in
+        let expedited_due : posts_expedited choice d ≡ expedited = posts_due expedited (not d.waiting) (eqb (at d exfak) 0) x in
+        rw (event_due, end_due, expedited_due, m, count event d.events, count expedited d.expedited) refl

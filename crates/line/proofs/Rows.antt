@@ -1,17 +1,16 @@
 -- Bytes put at a row of addresses.
-use Rattle.std.proofs.Common.{◌≡◌, ℕ, ◌+◌, ◌<◌, ◌≤◌, Bool, true, false, cond, not, ◌&&◌, eqb, ltb, List, [], ◌∷◌, length, get_or, drop, set, sym, refl, ◌∙◌, arith, length-set, get_or-set_other, get_or-set_same, ltb-true, eq-eqb, ne_eqb, eqb-true}
+use Rattle.std.proofs.Common.{◌≡◌, ℕ, ◌<◌, ◌≤◌, Bool, true, false, cond, not, ◌&&◌, eqb, ltb, ◌⊎◌, inl, inr, List, [], ◌∷◌, length, get_or, set, sym, refl, ◌∙◌, arith, length-set, get_or-set_other, get_or-set_same, ltb-true, eq-eqb, ne_eqb, eqb-true}
 use native.Mathlib.Nat.{suc_inj}
 use borrow.Author.Tests.{clash, eqb-false}
-use Rattle.std.proofs.lemmas.List.{drop_more, drop_all}
+use Rattle.std.proofs.lemmas.Bool.{and_parts, not-true}
 use Rattle.line.specs.Rules.{is_in}
 use Rattle.line.specs.Posts.{put_row}
 
-pub row_more : (ps bs m : List ℕ) (i : ℕ) → i < length ps → i < length bs
-    → put_row (drop (i + 1) ps) (drop (i + 1) bs) (set m (get_or ps i 0) (get_or bs i 0)) ≡ put_row (drop i ps) (drop i bs) m
-row_more ps bs m i h k = rw (drop_more ps i 0 h, drop_more bs i 0 k) refl
-
-pub row_all : (ps bs m : List ℕ) (i : ℕ) → length ps ≤ i → put_row (drop i ps) (drop i bs) m ≡ m
-row_all ps bs m i h = rw (drop_all i ps h) refl
+pub row_ends : (ps bs m : List ℕ) → (ps ≡ []) ⊎ (bs ≡ []) → put_row ps bs m ≡ m
+row_ends [] bs m h = refl
+row_ends (p ∷ ps) [] m h = refl
+row_ends (p ∷ ps) (b ∷ bs) m (inl e) = cc
+row_ends (p ∷ ps) (b ∷ bs) m (inr e) = cc
 
 pub row_length : (ps bs m : List ℕ) → length (put_row ps bs m) ≡ length m
 row_length [] bs m = refl
@@ -65,26 +64,15 @@ abbrev pub read_row : List ℕ → List ℕ → List ℕ
 read_row [] m = []
 read_row (p ∷ ps) m = get_or m p 0 ∷ read_row ps m
 
-both : (a b : Bool) → (not a && b) ≡ true → (a ≡ false) × (b ≡ true)
-both true b h = absurd (clash h)
-both false b h = (refl, h)
-
-less : (a b : ℕ) (r : Bool) → (ltb a b && r) ≡ true → (a < b) × (r ≡ true)
-less a b r h = one (ltb a b) refl h
-  where
-    one : (t : Bool) → ltb a b ≡ t → (t && r) ≡ true → (a < b) × (r ≡ true)
-    one true q h = (ltb-true a b q, h)
-    one false q h = absurd (clash h)
-
 pub row_read : (n : ℕ) (ps bs m : List ℕ) → distinct ps ≡ true → all_below n ps ≡ true → n ≤ length m → length bs ≡ length ps → read_row ps (put_row ps bs m) ≡ bs
 row_read n [] [] m d l h e = refl
 row_read n [] (b ∷ bs) m d l h e = let z : ⊥ = omega (arith, e) in absurd z
 row_read n (p ∷ ps) [] m d l h e = let z : ⊥ = omega (arith, e) in absurd z
 row_read n (p ∷ ps) (b ∷ bs) m d l h e =
-    let f = both (is_in ps p) (distinct ps) d in
-    let g = less p n (all_below n ps) l in
-    let k : p < length m = omega (arith, g.0) in
-    let here : get_or (put_row ps bs (set m p b)) p 0 ≡ b = row_other ps bs (set m p b) p f.0 ∙ get_or-set_same m p b 0 k in
+    let f = and_parts (not (is_in ps p)) (distinct ps) d in
+    let g = and_parts (ltb p n) (all_below n ps) l in
+    let k : p < length m = omega (arith, ltb-true p n g.0) in
+    let here : get_or (put_row ps bs (set m p b)) p 0 ≡ b = row_other ps bs (set m p b) p (not-true (is_in ps p) f.0) ∙ get_or-set_same m p b 0 k in
     let rest = row_read n ps bs (set m p b) f.1 g.1 (rw (length-set m p b) h) (suc_inj e) in
     rw (here, rest) refl
 

@@ -28,12 +28,11 @@ remake f xs = remake_from 0 f xs
 -- A restart makes a restart wait. Counts, working, toggles and the value seen are then zero, the request
 -- taken last stays, and the rest of memory may hold anything.
 abbrev pub restarted : Choice → Device → Device
-restarted ch d = record {
+restarted ch d = record d {
   memory = remake (λ a x. cond (is_toggle a) 0 (slice_index ch.bytes a)) d.memory;
   waiting = true;
   working = false;
   seen = 0;
-  last = d.last;
   taken = 0;
   events = 0;
   expedited = 0;
@@ -73,13 +72,9 @@ abbrev pub counted : Bool → ℕ → ℕ → ℕ
 counted posted value n = cond (posted && value == 1) ((n + 1) % 2 ^ 32) n
 
 abbrev pub ran : Choice → Device → Device
-ran ch d = record {
+ran ch d = record d {
   memory = remake (byte_after (posts_event ch d) (posts_end ch d) (posts_expedited ch d) ch d) d.memory;
-  waiting = d.waiting;
   working = cond (posts_end ch d) false d.working;
-  seen = d.seen;
-  last = d.last;
-  taken = d.taken;
   events = counted (posts_event ch d) ch.to_dpastat d.events;
   expedited = counted (posts_expedited ch d) ch.to_exfak d.expedited;
 }
@@ -95,15 +90,11 @@ bytes_at (p ∷ ps) d = at d p ∷ bytes_at ps d
 
 -- the device takes the request that stands in its memory, and notes CUSYN
 abbrev pub took : Device → Device
-took d = record {
-  memory = d.memory;
-  waiting = d.waiting;
+took d = record d {
   working = true;
   seen = at d cusyn;
   last = bytes_at request_places d;
   taken = (d.taken + 1) % 2 ^ 32;
-  events = d.events;
-  expedited = d.expedited;
 }
 
 -- Start does nothing if a restart waits or CUSYN equals the value seen; else a working device restarts and
@@ -120,28 +111,10 @@ abbrev pub may_write : ℕ → ℕ → ℕ → Bool
 may_write size a v = nat_lt a size && (nat_le unit_half a || ((is_toggle a && v == 0) || is_in response_places a))
 
 abbrev pub written : ℕ → ℕ → Device → Device
-written a v d = record {
-  memory = slice_set d.memory a v;
-  waiting = d.waiting;
-  working = d.working;
-  seen = d.seen;
-  last = d.last;
-  taken = d.taken;
-  events = d.events;
-  expedited = d.expedited;
-}
+written a v d = record d { memory = slice_set d.memory a v }
 
 abbrev pub acknowledged : Device → Device
-acknowledged d = record {
-  memory = d.memory;
-  waiting = false;
-  working = d.working;
-  seen = d.seen;
-  last = d.last;
-  taken = d.taken;
-  events = d.events;
-  expedited = d.expedited;
-}
+acknowledged d = record d { waiting = false }
 
 -- what a command that arrives makes of the device
 abbrev pub effect : Command → Choice → Device → Device

@@ -11,6 +11,7 @@ pub mod command;
 pub mod determined;
 pub mod laws;
 pub mod reply;
+pub mod row;
 pub mod tellable;
 pub mod telling;
 
@@ -61,14 +62,8 @@ pub fn issue<L: Line>(line: &mut L, command: Command) -> Option<Reply>
     ensures { L.step line.old command result line.new }
 {
     match command {
-        Command::Poll => match line.poll() {
-            Some(said) => Some(Reply::Polled(said)),
-            None => None,
-        },
-        Command::Read(address) => match line.read(address) {
-            Some(value) => Some(Reply::Byte(value)),
-            None => None,
-        },
+        Command::Poll => line.poll().map(Reply::Polled),
+        Command::Read(address) => line.read(address).map(Reply::Byte),
         Command::Write(address, value) => from_done(line.write(address, value)),
         Command::Start => from_done(line.start()),
         Command::Acknowledge => from_done(line.acknowledge()),

@@ -8,14 +8,14 @@ use crate::command::Reply;
 pub fn from_done(answered: bool) -> Option<Reply>
     ensures { result ≡ done answered }
 {
-    if answered { Some(Reply::Done) } else { None }
+    answered.then_some(Reply::Done)
 }
 
 pub fn to_byte(reply: Option<Reply>) -> Option<u8>
     ensures { result ≡ byte_in reply }
 {
-    match reply {
-        Some(Reply::Byte(value)) => Some(value),
+    match reply? {
+        Reply::Byte(value) => Some(value),
         _ => None,
     }
 }

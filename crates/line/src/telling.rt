@@ -4,10 +4,9 @@ ghost use Rattle.line.specs.Told.{told};
 
 use crate::Line;
 
-// What a line tells, for programs and for checks of their results.
+// All that a line keeps beside its device's memory.
 #[derive(Clone, Copy)]
-pub struct Telling<'a> {
-    pub memory: &'a [u8],
+pub struct Registers {
     pub waiting: bool,
     pub working: bool,
     pub seen: u8,
@@ -16,6 +15,13 @@ pub struct Telling<'a> {
     pub events: u32,
     pub expedited: u32,
     pub row: u8,
+}
+
+// What a line tells, for programs and for checks of their results.
+#[derive(Clone, Copy)]
+pub struct Telling<'a> {
+    pub memory: &'a [u8],
+    pub registers: Registers,
 }
 
 // A line whose state can be looked at. That is no command: nothing goes down the coax.

@@ -30,7 +30,7 @@ fn exchange(
     if !poll_for_status(line, log)? || !run(line, log, &toggle_reads())? {
         return Ok(None);
     }
-    read_record::<Synchronous, Terminal>(heap, line, log)
+    read_record::<Synchronous, 4, Terminal>(heap, line, log)
 }
 
 fn check(rt: &HostRuntime) -> anyhow::Result<()> {
@@ -42,12 +42,12 @@ fn check(rt: &HostRuntime) -> anyhow::Result<()> {
             let mut line = Terminal::new(heap)?;
             let mut log = Log::new(heap);
             let status = exchange(heap, &mut line, &mut log, script)?;
-            let runs = log.into_runs()?;
+            let runs = log.into_runs();
             report::print_log(rt, &runs)?;
             if let Some(record) = status {
                 report::print_record(rt, record)?;
             }
-            report::print_summary(rt, count(&runs), line.telling().taken, status)?;
+            report::print_summary(rt, count(&runs), line.telling().registers.taken, status)?;
         }
         Err(refusal) => report::print_refusal(rt, refusal)?,
     }

@@ -2,98 +2,132 @@
 use codes::number::Refusal;
 use line::command::{Command, PollAnswer, Reply};
 use linelog::Run;
-use std::alloc::{AllocError, Global};
-use std::io;
+use std::{fmt, io};
 use tca::status::SynchronousStatus;
 
-fn name(command: Command) -> &'static str {
-    match command {
-        Command::Poll => "Poll",
-        Command::Read(_) => "Read",
-        Command::Write(_, _) => "Write",
-        Command::Start => "Start",
-        Command::Acknowledge => "Acknowledge",
-        Command::TerminalId => "TerminalId",
-        Command::Reset => "Reset",
+#[derive(Clone, Copy)]
+struct Name(Command);
+
+impl fmt::Display for Name {
+    fn fmt<W: fmt::Write>(&self, f: &mut fmt::Formatter<W>) -> fmt::Result {
+        f.pad(match self.0 {
+            Command::Poll => "Poll",
+            Command::Read(_) => "Read",
+            Command::Write(_, _) => "Write",
+            Command::Start => "Start",
+            Command::Acknowledge => "Acknowledge",
+            Command::TerminalId => "TerminalId",
+            Command::Reset => "Reset",
+        })
     }
 }
 
-// The addresses that a run goes through, from its first on.
-fn addresses(heap: Global, run: &Run) -> Result<String, AllocError> {
-    match run.command {
-        Command::Read(first) | Command::Write(first, _) => {
-            let last = u32::from(first).saturating_add(run.times.saturating_sub(1));
-            if run.times > 1 {
-                format!(in heap; "{first:04X}-{last:04X}")
-            } else {
-                format!(in heap; "{first:04X}")
+// The addresses that a run goes through, from its first on, nine characters wide.
+#[derive(Clone, Copy)]
+struct Addresses(Run);
+
+impl fmt::Display for Addresses {
+    fn fmt<W: fmt::Write>(&self, f: &mut fmt::Formatter<W>) -> fmt::Result {
+        let run = self.0;
+        match run.command {
+            Command::Read(first) | Command::Write(first, _) => {
+                if run.times > 1 {
+                    let last = u32::from(first).saturating_add(run.times - 1);
+                    write!(f, "{first:04X}-{last:04X}")
+                } else {
+                    write!(f, "{first:04X}     ")
+                }
             }
+            _ => write!(f, "         "),
         }
-        _ => Ok(String::new(heap)),
     }
 }
 
-fn byte(heap: Global, command: Command) -> Result<String, AllocError> {
-    match command {
-        Command::Write(_, value) => format!(in heap; "{value:02X}"),
-        _ => Ok(String::new(heap)),
+// The byte that a command carries, four characters wide.
+#[derive(Clone, Copy)]
+struct Carried(Command);
+
+impl fmt::Display for Carried {
+    fn fmt<W: fmt::Write>(&self, f: &mut fmt::Formatter<W>) -> fmt::Result {
+        match self.0 {
+            Command::Write(_, value) => write!(f, "{value:02X}  "),
+            _ => write!(f, "    "),
+        }
     }
 }
 
 // How often, where it is more than once.
-fn times(heap: Global, run: &Run) -> Result<String, AllocError> {
-    if run.times > 1 {
-        run.times.to_string(heap)
-    } else {
-        Ok(String::new(heap))
+#[derive(Clone, Copy)]
+struct Times(u32);
+
+impl fmt::Display for Times {
+    fn fmt<W: fmt::Write>(&self, f: &mut fmt::Formatter<W>) -> fmt::Result {
+        if self.0 > 1 { self.0.fmt(f) } else { f.pad("") }
     }
 }
 
-fn answer(heap: Global, reply: Option<Reply>) -> Result<String, AllocError> {
-    match reply {
-        Some(Reply::Byte(value)) => format!(in heap; "{value:02X}"),
-        Some(Reply::Done) => String::from_str(heap, "done"),
-        Some(Reply::Polled(PollAnswer::Reset)) => String::from_str(heap, "reset"),
-        Some(Reply::Polled(PollAnswer::Status)) => String::from_str(heap, "status"),
-        Some(Reply::Polled(PollAnswer::Clean)) => String::from_str(heap, "clean"),
-        None => String::from_str(heap, "none"),
+#[derive(Clone, Copy)]
+struct Answer(Option<Reply>);
+
+impl fmt::Display for Answer {
+    fn fmt<W: fmt::Write>(&self, f: &mut fmt::Formatter<W>) -> fmt::Result {
+        match self.0 {
+            Some(Reply::Byte(value)) => write!(f, "{value:02X}"),
+            Some(Reply::Done) => f.write_str("done"),
+            Some(Reply::Polled(PollAnswer::Reset)) => f.write_str("reset"),
+            Some(Reply::Polled(PollAnswer::Status)) => f.write_str("status"),
+            Some(Reply::Polled(PollAnswer::Clean)) => f.write_str("clean"),
+            None => f.write_str("none"),
+        }
     }
 }
 
-fn print_run(rt: &HostRuntime, run: &Run) -> io::Result<()> {
-    let heap = rt.alloc();
-    let command = name(run.command);
-    let addresses = addresses(heap, run)?;
-    let byte = byte(heap, run.command)?;
-    let times = times(heap, run)?;
-    let answer = answer(heap, run.reply)?;
-    println!(rt; "{command:<11}  {addresses:<9}  {byte:<4}  {times:>5}  {answer}")
+// A run as a row of the table.
+#[derive(Clone, Copy)]
+struct Row(Run);
+
+impl fmt::Display for Row {
+    fn fmt<W: fmt::Write>(&self, f: &mut fmt::Formatter<W>) -> fmt::Result {
+        let name = Name(self.0.command);
+        let addresses = Addresses(self.0);
+        let carried = Carried(self.0.command);
+        let times = Times(self.0.times);
+        let answer = Answer(self.0.reply);
+        write!(
+            f,
+            "{name:<11}  {addresses}  {carried}  {times:>5}  {answer}"
+        )
+    }
 }
 
 pub fn print_log(rt: &HostRuntime, runs: &[Run]) -> io::Result<()> {
     println!(rt; "command      address    byte  times  answer")?;
     for run in runs {
-        print_run(rt, run)?;
+        println!(rt; "{}", Row(*run))?;
     }
     println!(rt; "")
 }
 
 pub fn print_record(rt: &HostRuntime, record: SynchronousStatus) -> io::Result<()> {
-    let [dssv, dssp, dssp2, dssp3] = record.to_bytes();
-    println!(rt; "DSSV   {dssv:02X}")?;
-    println!(rt; "DSSP   {dssp:02X}")?;
-    println!(rt; "DSSP2  {dssp2:02X}")?;
-    println!(rt; "DSSP3  {dssp3:02X}")?;
+    let names = ["DSSV", "DSSP", "DSSP2", "DSSP3"];
+    for (name, byte) in names.iter().zip(<[u8; 4]>::from(record)) {
+        println!(rt; "{name:<5}  {byte:02X}")?;
+    }
     println!(rt; "")
 }
 
-fn status_text(heap: Global, status: Option<SynchronousStatus>) -> Result<String, AllocError> {
-    match status {
-        Some(record) => {
-            let [dssv, dssp, dssp2, dssp3] = record.to_bytes();
-            format!(in heap; "{dssv:02X}{dssp:02X}{dssp2:02X}{dssp3:02X}")
+#[derive(Clone, Copy)]
+struct Status(Option<SynchronousStatus>);
+
+impl fmt::Display for Status {
+    fn fmt<W: fmt::Write>(&self, f: &mut fmt::Formatter<W>) -> fmt::Result {
+        let Some(record) = self.0 else {
+            return f.write_str("none");
+        };
+        for byte in <[u8; 4]>::from(record) {
+            write!(f, "{byte:02X}")?;
         }
-        None => String::from_str(heap, "none"),
+        Ok(())
     }
 }
 
@@ -103,7 +137,7 @@ pub fn print_summary(
     taken: u32,
     status: Option<SynchronousStatus>,
 ) -> io::Result<()> {
-    let status = status_text(rt.alloc(), status)?;
+    let status = Status(status);
     println!(rt; "commands sent   {sent}")?;
     println!(rt; "requests taken  {taken}")?;
     println!(rt; "status          {status}")
@@ -111,7 +145,7 @@ pub fn print_summary(
 
 // Prints why the script was refused, by its number.
 pub fn print_refusal(rt: &HostRuntime, refusal: Refusal) -> io::Result<()> {
-    let number = refusal.number();
+    let number = u8::from(refusal);
     println!(rt;
         "{number} malformed: expected ten and eight upper-case hexadecimal digits on two lines"
     )

@@ -1,14 +1,14 @@
 -- How the sendings of a log grow.
-use Rattle.std.proofs.Common.{◌≡◌, ℕ, zero, suc, ◌+◌, ◌-◌, ◌^◌, ◌<◌, min, Bool, true, false, cond, ltb, List, [], ◌∷◌, ◌++◌, length, get_or, take, Some, None, Ok, Err, vec_items, Option, Result, sym, refl, ap, ◌∙◌, append_assoc, append-nil, add-zero, add-one, arith, length-append, MatchResult}
-use Rattle.std.proofs.lemmas.List.{take_more}
+use Rattle.std.proofs.Common.{◌≡◌, ℕ, zero, suc, ◌+◌, ◌-◌, ◌^◌, ◌<◌, ◌≤◌, min, Bool, true, false, cond, ltb, List, [], ◌∷◌, ◌++◌, length, set, fold, get_or, slice_get, Some, None, Option, sym, refl, ap, ◌∙◌, append_assoc, append-nil, add-zero, add-one, arith, length-append}
+use Rattle.std.proofs.lemmas.List.{set-get_or}
+use Rattle.std.proofs.lemmas.Option.{get_or_from_slice_get}
 use Rattle.std.specs.Option.{option_map}
 use Rattle.line.specs.Sent.{Sending}
 use Rattle.line.specs.declared.command.Command.{Command}
 use Rattle.line.specs.declared.command.Command.TheVariants.{Poll, Read, Write, Start, Acknowledge, TerminalId, Reset}
 use Rattle.line.specs.declared.command.Reply.{Reply}
-use Rattle.linelog.specs.declared.Log.{Log}
 use Rattle.linelog.specs.declared.Run.{Run}
-use Rattle.linelog.specs.Runs.{advance, next_from, spell, spell_times, spell_all, once, once_more, runs_of, sendings, Continues}
+use Rattle.linelog.specs.Runs.{advance, next_from, spell, spell_times, spell_all, once, once_more, Continues}
 
 pub spell-all-++ : (xs ys : List Run) → spell_all (xs ++ ys) ≡ spell_all xs ++ spell_all ys
 spell-all-++ [] ys = refl
@@ -34,10 +34,12 @@ next_is_advanced Reset d n e = cc
 spell_once_more : (x : Run) (c : Command) (r : Option Reply) → Continues x c r → spell (once_more x) ≡ spell x ++ (c, r) ∷ []
 spell_once_more x c r on = rw (add-one x.times) (ap (λ (z : Sending). spell x ++ z ∷ []) (let e = next_is_advanced x.command c x.times on.1 in cc))
 
-pub goes_on : (xs : List Run) (x : Run) (c : Command) (r : Option Reply) → Continues x c r → spell_all (xs ++ once_more x ∷ []) ≡ spell_all (xs ++ x ∷ []) ++ (c, r) ∷ []
-goes_on xs x c r on =
-    spell_all_push xs (once_more x) ∙ ap (λ (zs : List Sending). spell_all xs ++ zs) (spell_once_more x c r on)
-    ∙ sym (append_assoc (spell_all xs) (spell x) ((c, r) ∷ [])) ∙ ap (λ (zs : List Sending). zs ++ (c, r) ∷ []) (sym (spell_all_push xs x))
+pub goes_on : (xs : List Run) (n : ℕ) (x : Run) (c : Command) (r : Option Reply) → length xs ≡ n + 1 → slice_get xs n ≡ Some x → Continues x c r → spell_all (set xs n (once_more x)) ≡ spell_all xs ++ (c, r) ∷ []
+goes_on [] n x c r long last on = absurd (omega arith)
+goes_on (y ∷ []) zero x c r long last on = let same : y ≡ x = cc in rw (same, append-nil (spell x), append-nil (spell (once_more x))) (spell_once_more x c r on)
+goes_on (y ∷ z ∷ ys) zero x c r long last on = absurd (omega arith)
+goes_on (y ∷ ys) (suc n) x c r long last on =
+    ap (λ (zs : List Sending). spell y ++ zs) (goes_on ys n x c r (omega arith) last on) ∙ sym (append_assoc (spell y) (spell_all ys) ((c, r) ∷ []))
 
 advance_none : (c : Command) → advance c 0 ≡ c
 advance_none Poll = refl
@@ -51,31 +53,21 @@ advance_none Reset = refl
 pub begins : (xs : List Run) (c : Command) (r : Option Reply) → spell_all (xs ++ once c r ∷ []) ≡ spell_all xs ++ (c, r) ∷ []
 begins xs c r = spell_all_push xs (once c r) ∙ ap (λ (d : Command). spell_all xs ++ (d, r) ∷ []) (advance_none c)
 
--- the last run goes on
-pub noted_longer : (log : Log) (x y : Run) (c : Command) (r : Option Reply) → log.current ≡ Some x → Continues x c r → y ≡ once_more x → sendings (record { finished = log.finished; current = Some y }) ≡ sendings log ++ (c, r) ∷ []
-noted_longer log x y c r e on f = rw (e, f) (goes_on (vec_items log.finished) x c r on)
+-- what was read, written back
+pub set_read : (xs : List Run) (n : ℕ) (x : Run) → x ≡ get_or xs n x → set xs n x ≡ xs
+set_read xs n x e = ap (set xs n) e ∙ set-get_or xs n x
 
-pub same_count : (log : Log) (x y : Run) → log.current ≡ Some x → length (runs_of (record { finished = log.finished; current = Some y })) ≡ length (runs_of log)
-same_count log x y e = rw e (length-append (vec_items log.finished) (y ∷ []) ∙ sym (length-append (vec_items log.finished) (x ∷ [])))
-
--- a new run begins
-pub noted_anew : {E : Type 0} (result : Result (Unit {0}) E) (log after : Log) (c : Command) (r : Option Reply)
-    → MatchResult result (λ _. (vec_items after.finished ≡ runs_of log) × (after.current ≡ Some (once c r))) (λ _. runs_of after ≡ runs_of log)
-    → MatchResult result (λ _. sendings after ≡ sendings log ++ (c, r) ∷ []) (λ _. sendings after ≡ sendings log)
-noted_anew (Ok _) log after c r e = rw (e.0, e.1) (begins (runs_of log) c r)
-noted_anew (Err _) log after c r e = ap spell_all e
+-- the last run, read by two ways
+pub last_is : (xs : List Run) (n : ℕ) (x y : Run) → n ≡ length xs → 0 < n → y ≡ get_or xs (n - 1) y → slice_get xs (length xs - 1) ≡ Some x → y ≡ x
+last_is xs n x y long some read last = read ∙ get_or_from_slice_get xs (n - 1) x y (rw long last)
 
 -- counts
 spell_length : (c : Command) (r : Option Reply) (n : ℕ) → length (spell_times c r n) ≡ n
 spell_length c r zero = refl
 spell_length c r (suc n) = length-append (spell_times c r n) ((advance c n, r) ∷ []) ∙ ap (λ (k : ℕ). k + 1) (spell_length c r n) ∙ add-one n
 
-count_push : (xs : List Run) (x : Run) → length (spell_all (xs ++ x ∷ [])) ≡ length (spell_all xs) + x.times
-count_push xs x = ap length (spell_all_push xs x) ∙ length-append (spell_all xs) (spell x) ∙ ap (λ (n : ℕ). length (spell_all xs) + n) (spell_length x.command x.reply x.times)
-
-count_more : (xs : List Run) (i : ℕ) (d : Run) → i < length xs → length (spell_all (take (i + 1) xs)) ≡ length (spell_all (take i xs)) + (get_or xs i d).times
-count_more xs i d h = ap (λ (ys : List Run). length (spell_all ys)) (take_more xs i d h) ∙ count_push (take i xs) (get_or xs i d)
-
-pub counted_more : (xs : List Run) (i : ℕ) (d : Run) (sent times now-sent : ℕ) → i < length xs → sent ≡ min (2 ^ 64 - 1) (length (spell_all (take i xs))) → times ≡ (get_or xs i d).times → now-sent ≡ min (sent + times) (2 ^ 64 - 1)
-    → now-sent ≡ min (2 ^ 64 - 1) (length (spell_all (take (i + 1) xs)))
-counted_more xs i d sent times now-sent h before one after = omega (arith, count_more xs i d h)
+pub counted : (sent : ℕ) (xs : List Run) → sent ≤ 2 ^ 64 - 1 → fold (λ sent x. min (sent + x.times) (2 ^ 64 - 1)) sent xs ≡ min (2 ^ 64 - 1) (sent + length (spell_all xs))
+counted sent [] h = omega arith
+counted sent (x ∷ xs) h =
+    let rest = counted (min (sent + x.times) (2 ^ 64 - 1)) xs (omega arith) in
+    omega (arith, rest, length-append (spell x) (spell_all xs), spell_length x.command x.reply x.times)

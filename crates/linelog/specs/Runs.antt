@@ -1,5 +1,5 @@
 -- The sendings that a log stands for.
-use Rattle.std.specs.Prelude.{◌≡◌, ℕ, zero, suc, ◌+◌, ◌^◌, ◌<◌, cond, List, [], ◌∷◌, ◌++◌, Some, None, vec_items, Option, nat_lt}
+use Rattle.std.specs.Prelude.{◌≡◌, ℕ, zero, suc, ◌+◌, ◌-◌, ◌^◌, ◌<◌, cond, List, [], ◌∷◌, ◌++◌, length, slice_get, Some, None, vec_items, Option, nat_lt}
 use Rattle.std.specs.Option.{option_map}
 use Rattle.line.specs.Sent.{Sending}
 use Rattle.line.specs.declared.command.Command.{Command}
@@ -36,12 +36,12 @@ abbrev pub spell_all : List Run → List Sending
 spell_all [] = []
 spell_all (x ∷ xs) = spell x ++ spell_all xs
 
-abbrev pub current_runs : Option Run → List Run
-current_runs None = []
-current_runs (Some x) = x ∷ []
-
 abbrev pub runs_of : Log → List Run
-runs_of log = vec_items log.finished ++ current_runs log.current
+runs_of log = vec_items log.runs
+
+-- the run that may go on
+abbrev pub last_run : Log → Option Run
+last_run log = slice_get (runs_of log) (length (runs_of log) - 1)
 
 abbrev pub sendings : Log → List Sending
 sendings log = spell_all (runs_of log)

@@ -15,9 +15,8 @@ pub struct Run {
     pub times: u32,
 }
 
-// The runs that ended, and the one that may go on.
+// The runs in order. Only the last one may go on.
 #[derive(Drop)]
 pub struct Log {
-    finished: Vec<Run>,
-    current: Option<Run>,
+    runs: Vec<Run>,
 }

@@ -1,5 +1,5 @@
-ghost use Rattle.std.specs.Prelude.{◌≡◌, ◌+◌, ◌-◌, ◌^◌, ◌<◌, min, [], ◌∷◌, ◌++◌, length, IfOk, Some, None, Ok, MatchBool, MatchOption, MatchResult};
-ghost use Rattle.linelog.specs.Runs.{further_on, next_of, Continues, once, once_more, spell_all, sendings, runs_of};
+ghost use Rattle.std.specs.Prelude.{◌≡◌, ◌+◌, ◌-◌, ◌^◌, ◌<◌, min, [], ◌∷◌, ◌++◌, length, Some, Ok, MatchBool, MatchResult};
+ghost use Rattle.linelog.specs.Runs.{further_on, next_of, Continues, spell_all, last_run, sendings, runs_of};
 
 use crate::{Log, Run};
 use line::command::{Command, Reply};
@@ -9,10 +9,7 @@ use std::alloc::{AllocError, Global};
 fn further(address: u16, places: u32) -> Option<u16>
     ensures { result ≡ further_on address places }
 {
-    let Ok(places) = u16::try_from(places) else {
-        return None;
-    };
-    address.checked_add(places)
+    address.checked_add(u16::try_from(places).ok()?)
 }
 
 impl Run {
@@ -21,19 +18,11 @@ impl Run {
         ensures { result ≡ next_of self.now }
     {
         match self.command {
-            Command::Poll => Some(Command::Poll),
-            Command::Read(address) => match further(address, self.times) {
-                Some(place) => Some(Command::Read(place)),
-                None => None,
-            },
-            Command::Write(address, value) => match further(address, self.times) {
-                Some(place) => Some(Command::Write(place, value)),
-                None => None,
-            },
-            Command::Start => Some(Command::Start),
-            Command::Acknowledge => Some(Command::Acknowledge),
-            Command::TerminalId => Some(Command::TerminalId),
-            Command::Reset => Some(Command::Reset),
+            Command::Read(address) => further(address, self.times).map(Command::Read),
+            Command::Write(address, value) => {
+                further(address, self.times).map(|place| Command::Write(place, value))
+            }
+            other => Some(other),
         }
     }
 
@@ -42,25 +31,15 @@ impl Run {
     {
         self.times < u32::MAX && self.next() == Some(command) && self.reply == reply
     }
-
-    fn longer(self) -> Run
-        requires { self.times + 1 < 2 ^ 32 }
-        ensures { result ≡ once_more self }
-    {
-        let times = self.times + 1;
-        Run { times, ..self }
-    }
 }
 
 // How many sendings the runs stand for, held at the largest u64.
 pub fn count(runs: &[Run]) -> u64
     ensures { result ≡ min (2 ^ 64 - 1) (length (spell_all runs.now)) }
 {
-    let mut sent: u64 = 0;
-    for run in runs {
-        sent = sent.saturating_add(u64::from(run.times));
-    }
-    sent
+    runs.iter().fold(0, |sent: u64, run| {
+        sent.saturating_add(u64::from(run.times))
+    })
 }
 
 impl Log {
@@ -68,65 +47,31 @@ impl Log {
         ensures { runs_of result ≡ [] }
     {
         Log {
-            finished: Vec::new(heap),
-            current: None,
+            runs: Vec::new(heap),
         }
-    }
-
-    fn finish(&mut self) -> Result<(), AllocError>
-        ensures { MatchResult result (λ _. (self.new.finished.items ≡ runs_of self.old) × (self.new.current ≡ None)) (λ _. runs_of self.new ≡ runs_of self.old) }
-    {
-        if let Some(run) = self.current {
-            self.finished.push(run)?;
-            self.current = None;
-        }
-        Ok(())
-    }
-
-    // The last run, if the sending goes on with it.
-    fn continued_by(&self, command: Command, reply: Option<Reply>) -> Option<Run>
-        ensures { MatchOption result ((x : Run) → self.now.current ≡ Some x → Continues x command reply → ⊥) (λ x. (self.now.current ≡ Some x) × Continues x command reply) }
-    {
-        let run = self.current?;
-        if run.is_continued_by(command, reply) {
-            Some(run)
-        } else {
-            None
-        }
-    }
-
-    fn begin(&mut self, command: Command, reply: Option<Reply>) -> Result<(), AllocError>
-        ensures { MatchResult result (λ _. (self.new.finished.items ≡ runs_of self.old) × (self.new.current ≡ Some (once command reply))) (λ _. runs_of self.new ≡ runs_of self.old) }
-    {
-        self.finish()?;
-        self.current = Some(Run {
-            command,
-            reply,
-            times: 1,
-        });
-        Ok(())
     }
 
     // Notes one sending. It makes the last run longer if it goes on with it, and else begins a new one.
     // Without memory for that the log stays as it is.
     pub fn note(&mut self, command: Command, reply: Option<Reply>) -> Result<(), AllocError>
         ensures value { MatchResult result (λ _. sendings self.new ≡ sendings self.old ++ (command, reply) ∷ []) (λ _. sendings self.new ≡ sendings self.old) }
-        ensures folds { (x : Run) → self.old.current ≡ Some x → Continues x command reply → (result ≡ Ok tt) × (length (runs_of self.new) ≡ length (runs_of self.old)) }
+        ensures folds { (x : Run) → last_run self.old ≡ Some x → Continues x command reply → (result ≡ Ok tt) × (length (runs_of self.new) ≡ length (runs_of self.old)) }
     {
-        match self.continued_by(command, reply) {
-            Some(run) => {
-                self.current = Some(run.longer());
-                Ok(())
-            }
-            None => self.begin(command, reply),
+        match self.runs.last_mut() {
+            Some(last) if last.is_continued_by(command, reply) => last.times += 1,
+            _ => self.runs.push(Run {
+                command,
+                reply,
+                times: 1,
+            })?,
         }
+        Ok(())
     }
 
     // The runs in order.
-    pub fn into_runs(mut self) -> Result<Vec<Run>, AllocError>
-        ensures { IfOk result (λ v. v.items ≡ runs_of self) }
+    pub fn into_runs(self) -> Vec<Run>
+        ensures { result.items ≡ runs_of self }
     {
-        self.finish()?;
-        Ok(self.finished)
+        self.runs
     }
 }

@@ -1,70 +1,78 @@
-// One line of text, answered.
-use crate::output::Output;
-use crate::parse;
-use crate::session::{Session, read_end, read_event};
+// The answers to lines of text.
+use codes::number::Refusal;
+use line::command::{PollAnswer, Reply};
+use line::telling::Telling;
 use std::alloc::AllocError;
 
-// The answer to what is told or noted.
-fn note(done: bool, answer: &[u8], output: &mut Output) {
-    if done {
-        output.text(answer);
-    } else {
-        output.refuse();
+// Why a line of text has no answer of its own.
+#[derive(Drop)]
+pub enum Failure {
+    Refused(Refusal),
+    OutOfMemory(AllocError),
+}
+
+impl From<Refusal> for Failure {
+    fn from(refusal: Refusal) -> Failure {
+        Failure::Refused(refusal)
     }
 }
 
-impl Session {
-    fn choice(&mut self, text: &[u8], output: &mut Output) -> Result<(), AllocError> {
-        match self.choose(text)? {
-            Some(true) => output.text(b"L,made\n"),
-            Some(false) => output.text(b"L,none\n"),
-            None => output.refuse(),
-        }
-        Ok(())
+impl From<AllocError> for Failure {
+    fn from(error: AllocError) -> Failure {
+        Failure::OutOfMemory(error)
     }
+}
 
-    // What is told or noted.
-    fn other(&mut self, text: &[u8], output: &mut Output) -> Result<(), AllocError> {
-        match text {
-            [b'E', b',', rest @ ..] => {
-                let told = match read_event(rest) {
-                    Some(event) => self.tell_event(event),
-                    None => false,
-                };
-                note(told, b"E,told\n", output);
-            }
-            [b'F', b',', rest @ ..] => {
-                let told = match read_end(rest) {
-                    Some(end) => self.tell_end(end),
-                    None => false,
-                };
-                note(told, b"F,told\n", output);
-            }
-            [b'M', b',', a, b, c, d, b',', e, f] => {
-                let noted = match (parse::address(*a, *b, *c, *d), parse::byte(*e, *f)) {
-                    (Some(address), Some(value)) => self.poke(address, value)?,
-                    _ => false,
-                };
-                note(noted, b"M,noted\n", output);
-            }
-            [b'Z', b',', rest @ ..] => {
-                let marks = parse::marks(rest);
-                note(marks.is_some(), b"Z,noted\n", output);
-                if marks.is_some() {
-                    self.marks = marks;
-                }
-            }
-            [b'L', b',', rest @ ..] => self.choice(rest, output)?,
-            [b'T'] => self.telling(output),
-            _ => output.refuse(),
-        }
-        Ok(())
-    }
+pub fn write_refusal(refusal: Refusal, answers: &mut Vec<u8>) -> Result<(), AllocError> {
+    let text = format!(in *answers.allocator(); "?,{}\n", u8::from(refusal))?;
+    answers.extend_from_slice(text.as_bytes())
+}
 
-    pub fn answer(&mut self, text: &[u8], output: &mut Output) -> Result<(), AllocError> {
-        if self.command(text, output) {
-            return Ok(());
+fn write_word(letter: u8, word: &[u8], answers: &mut Vec<u8>) -> Result<(), AllocError> {
+    answers.push(letter)?;
+    answers.extend_from_slice(word)
+}
+
+// What came back for the command of this letter. By formats, and so by Display, the program takes 1.4 times what
+// the second program takes, where the bar is 1.2.
+pub fn write_reply(
+    letter: u8,
+    reply: Option<Reply>,
+    answers: &mut Vec<u8>,
+) -> Result<(), AllocError> {
+    match reply {
+        None => write_word(letter, b",none\n", answers),
+        Some(Reply::Done) => write_word(letter, b",done\n", answers),
+        Some(Reply::Byte(value)) => {
+            let [high, low] = hexadecimal::encode(value);
+            answers.extend_from_slice(&[letter, b',', high, low, b'\n'])
         }
-        self.other(text, output)
+        Some(Reply::Polled(PollAnswer::Reset)) => write_word(letter, b",reset\n", answers),
+        Some(Reply::Polled(PollAnswer::Status)) => write_word(letter, b",status\n", answers),
+        Some(Reply::Polled(PollAnswer::Clean)) => write_word(letter, b",clean\n", answers),
     }
+}
+
+// The 32-bit FNV-1a hash.
+fn digest(memory: &[u8]) -> u32 {
+    memory.iter().fold(2166136261, |hash: u32, byte| {
+        (hash ^ u32::from(*byte)).wrapping_mul(16777619)
+    })
+}
+
+pub fn write_telling(telling: Telling<'_>, answers: &mut Vec<u8>) -> Result<(), AllocError> {
+    let digest = digest(telling.memory);
+    let registers = telling.registers;
+    let text = format!(in *answers.allocator();
+        "T,{},{},{:02X},{:016X},{},{},{},{},{digest:08X}\n",
+        u8::from(registers.waiting),
+        u8::from(registers.working),
+        registers.seen,
+        u64::from_be_bytes(registers.last),
+        registers.taken,
+        registers.events,
+        registers.expedited,
+        registers.row,
+    )?;
+    answers.extend_from_slice(text.as_bytes())
 }

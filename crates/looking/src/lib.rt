@@ -1,12 +1,13 @@
 // What a poll sees: its answer, and the toggles if it says status.
 #![tactic(auto)]
 
-ghost use Rattle.std.specs.Prelude.{◌≡◌, Ok};
+ghost use Rattle.std.specs.Prelude.{◌≡◌, ◌≤◌, Ok, MatchResult};
 ghost use Rattle.line.specs.declared.command.PollAnswer.TheVariants.{Status as StatusIsThere};
-ghost use Rattle.procedures.specs.Procedure.{said as says};
+ghost use Rattle.procedures.specs.Procedure.{said as says, reads};
 ghost use Rattle.procedures.specs.Performs.{Performs};
-ghost use Rattle.ports.specs.declared.seen.Seen.TheVariants.{Bad as ABadOne};
-ghost use Rattle.ports.specs.Sendings.{resets, looks, polls};
+ghost use Rattle.ports.specs.Sendings.{looks, polls};
+ghost use Rattle.looking.specs.declared.Early.TheVariants.{Silent};
+ghost use Rattle.looking.specs.Ends.{EndsAt, seen_by};
 
 use line::Line;
 use line::command::{Command, PollAnswer, Reply};
@@ -21,33 +22,45 @@ pub fn said(reply: Reply) -> PollAnswer
 {
     match reply {
         Reply::Polled(answer) => answer,
-        _ => PollAnswer::Clean,
+        Reply::Done | Reply::Byte(_) => PollAnswer::Clean,
     }
 }
 
-fn bad<L: Line>(line: &mut L, address: u16) -> Seen
-    ensures { Performs L.Line.step (resets (ABadOne address)) line.old (Ok result) line.new }
-{
-    reset(line);
-    Seen::Bad(address)
+// What ends the reading of toggles before the last.
+enum Early {
+    Silent(Silence),
+    // the toggle at this address is neither 0 nor 1, and the device was reset
+    BadToggle(u16),
 }
 
-// The three toggles in their order, up to the first that is neither 0 nor 1.
-fn read_toggles<L: Line>(line: &mut L) -> Result<Seen, Silence>
-    ensures { Performs L.Line.step (looks StatusIsThere) line.old result line.new }
+impl From<Silence> for Early {
+    ghost from_gives = { λ e early. early ≡ Silent e };
+
+    fn from(silence: Silence) -> Early {
+        Early::Silent(silence)
+    }
+}
+
+fn read_toggle<L: Line>(line: &mut L, address: u16) -> Result<u8, Early>
+    ensures { MatchResult result
+        (λ toggle. (toggle ≤ 1) × Performs L.Line.step (reads address) line.old (Ok toggle) line.new)
+        (λ early. EndsAt L.Line.step address line.old early line.new) }
 {
-    let exfak = read(line, EXFAK.address)?;
-    if exfak > 1 {
-        return Ok(bad(line, EXFAK.address));
+    let toggle = read(line, address)?;
+    if toggle > 1 {
+        reset(line);
+        return Err(Early::BadToggle(address));
     }
-    let dpsstat = read(line, DPSSTAT.address)?;
-    if dpsstat > 1 {
-        return Ok(bad(line, DPSSTAT.address));
-    }
-    let dpastat = read(line, DPASTAT.address)?;
-    if dpastat > 1 {
-        return Ok(bad(line, DPASTAT.address));
-    }
+    Ok(toggle)
+}
+
+// The three toggles in their order.
+fn read_toggles<L: Line>(line: &mut L) -> Result<Seen, Early>
+    ensures { Performs L.Line.step (looks StatusIsThere) line.old (seen_by result) line.new }
+{
+    let exfak = read_toggle(line, EXFAK.address)?;
+    let dpsstat = read_toggle(line, DPSSTAT.address)?;
+    let dpastat = read_toggle(line, DPASTAT.address)?;
     Ok(Seen::Toggles {
         exfak,
         dpsstat,
@@ -63,7 +76,11 @@ fn see<L: Line>(line: &mut L, answer: PollAnswer) -> Result<Seen, Silence>
             reset(line);
             Ok(Seen::Restart)
         }
-        PollAnswer::Status => read_toggles(line),
+        PollAnswer::Status => match read_toggles(line) {
+            Ok(toggles) => Ok(toggles),
+            Err(Early::BadToggle(address)) => Ok(Seen::Bad(address)),
+            Err(Early::Silent(silence)) => Err(silence),
+        },
         PollAnswer::Clean => Ok(Seen::Clean),
     }
 }

@@ -6,14 +6,14 @@ use Rattle.line.specs.State.{State}
 use Rattle.losing.specs.declared.mark.Mark.{Mark}
 use Rattle.losing.specs.declared.mark.Mark.TheVariants.{Passes, Unheard, Unanswered}
 
--- what happened to the line below, and what came back, under a mark
-abbrev pub Lost : {S : Type 0} → (S → Command → Option Reply → S → Type 0) → Mark → S → Command → Option Reply → S → Type 0
-Lost step Passes s c r t = step s c r t
-Lost step Unheard s c r t = (t ≡ s) × (r ≡ None)
-Lost step Unanswered s c r t = (q : Option Reply) × step s c q t × (r ≡ None)
+-- what happened to the line below, and what came back, under a mark, where `sent` is one sending to that line
+abbrev pub Lost : {S A : Type 0} → (S → Option A → S → Type 0) → Mark → S → Option A → S → Type 0
+Lost sent Passes s r t = sent s r t
+Lost sent Unheard s r t = (t ≡ s) × (r ≡ None)
+Lost {A = A} sent Unanswered s r t = (q : Option A) × sent s q t × (r ≡ None)
 
 -- an answer sets the row to 0, and none adds 1
-abbrev pub row_by : Option Reply → ℕ → ℕ
+abbrev pub row_by : {A : Type 0} → Option A → ℕ → ℕ
 row_by None n = min 255 (n + 1)
 row_by (Some y) n = 0
 
@@ -24,8 +24,8 @@ abbrev pub mark_at : List Mark → ℕ → Mark
 mark_at marks next = slice_index_or marks next Passes
 
 -- one sending: the line below under the mark that is next, the rotation one further, and the row
-pub record Loses {S : Type 0} (step : S → Command → Option Reply → S → Type 0) (marks : List Mark) (next row : ℕ) (s : S) (c : Command) (r : Option Reply) (t : S) (marks' : List Mark) (next' row' : ℕ) : Type 0 where
-  pub below : Lost step (mark_at marks next) s c r t
+pub record Loses {S A : Type 0} (sent : S → Option A → S → Type 0) (marks : List Mark) (next row : ℕ) (s : S) (r : Option A) (t : S) (marks' : List Mark) (next' row' : ℕ) : Type 0 where
+  pub below : Lost sent (mark_at marks next) s r t
   pub marks_stay : marks' ≡ marks
   pub next_turns : next' ≡ turned next
   pub row_counts : row' ≡ row_by r row

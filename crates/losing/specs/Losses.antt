@@ -116,18 +116,18 @@ silent : Choice
 silent = record { passage = unheard; restarts = false; to_dpastat = 0; to_dpsstat = 0; to_exfak = 0; bytes = [] }
 
 module _ {S : Type 0} (step : S → Command → Option Reply → S → Type 0) (state : S → State) (keeps : (s t : S) (c : Command) (r : Option Reply) → step s c r t → Permitted (state s) c r (state t)) where
-  lost_permitted : (m : Mark) (n : ℕ) (s t : S) (c : Command) (r : Option Reply) → Lost step m s c r t → Permitted (told_over (state s) n) c r (told_over (state t) (row_by r n))
+  lost_permitted : (m : Mark) (n : ℕ) (s t : S) (c : Command) (r : Option Reply) → Lost (λ s r t. step s c r t) m s r t → Permitted (told_over (state s) n) c r (told_over (state t) (row_by r n))
   lost_permitted Passes n s t c r w = passes (state s) n c (state t) r (keeps s t c r w)
   lost_permitted Unheard n s t c r (e, q) = rw (e, q) (swallowed (state s) n c silent)
   lost_permitted Unanswered n s t c r (q, w, e) = rw e (muted (state s) n c (state t) q (keeps s t c q w))
 
   pub keeps_over : (marks : List Mark) (next row : ℕ) (s : S) (c : Command) (r : Option Reply) (t : S) (marks' : List Mark) (next' row' : ℕ)
-      → Loses step marks next row s c r t marks' next' row' → Permitted (told_over (state s) row) c r (told_over (state t) row')
+      → Loses (λ s r t. step s c r t) marks next row s r t marks' next' row' → Permitted (told_over (state s) row) c r (told_over (state t) row')
   keeps_over marks next row s c r t marks' next' row' l = rw l.row_counts (lost_permitted (mark_at marks next) row s t c r l.below)
 
 module _ {S O : Type 0} (step : S → Command → Option Reply → S → Type 0) (own : S → O) (next_of : Command → O → O) (answers : Command → O → Option Reply)
     (determined : (s t : S) (c : Command) (r : Option Reply) → step s c r t → (own t ≡ next_of c (own s)) × (r ≡ answers c (own s))) where
-  lost_determined : (m : Mark) (s t : S) (c : Command) (r : Option Reply) → Lost step m s c r t → (own t ≡ below_after m next_of c (own s)) × (r ≡ answer_through m answers c (own s))
+  lost_determined : (m : Mark) (s t : S) (c : Command) (r : Option Reply) → Lost (λ s r t. step s c r t) m s r t → (own t ≡ below_after m next_of c (own s)) × (r ≡ answer_through m answers c (own s))
   lost_determined Passes s t c r w = determined s t c r w
   lost_determined Unheard s t c r (e, q) = (ap own e, q)
   lost_determined Unanswered s t c r (q, w, e) = ((determined s t c q w).0, e)
@@ -136,7 +136,7 @@ module _ {S O : Type 0} (step : S → Command → Option Reply → S → Type 0)
   over s marks next row = record { below = own s; marks = marks; next = next; row = row }
 
   pub determined_over : (marks : List Mark) (next row : ℕ) (s : S) (c : Command) (r : Option Reply) (t : S) (marks' : List Mark) (next' row' : ℕ)
-      → Loses step marks next row s c r t marks' next' row'
+      → Loses (λ s r t. step s c r t) marks next row s r t marks' next' row'
       → (over t marks' next' row' ≡ next_over next_of answers c (over s marks next row)) × (r ≡ answers_over answers c (over s marks next row))
   determined_over marks next row s c r t marks' next' row' l =
       let d = lost_determined (mark_at marks next) s t c r l.below in

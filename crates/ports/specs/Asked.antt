@@ -1,18 +1,17 @@
 -- What can be asked of a port, and the call that it is.
-use Rattle.std.specs.Prelude.{ℕ, List}
+use Rattle.std.specs.Prelude.{ℕ, List, Result}
 use Rattle.codes.specs.declared.attachment.Attachment.{Attachment}
+use Rattle.codes.specs.declared.number.Refusal.{Refusal}
 use Rattle.tca.specs.declared.request.Request.{Request}
+use Rattle.tca.specs.declared.status.SynchronousStatus.{SynchronousStatus}
+use Rattle.tca.specs.declared.status.ExpeditedStatus.{ExpeditedStatus}
 use Rattle.line.specs.State.{State}
+use Rattle.ports.specs.declared.port.Marks.{Marks}
 use Rattle.ports.specs.declared.port.Port.{Port}
-use Rattle.ports.specs.declared.answers.Configured.{Configured}
-use Rattle.ports.specs.declared.answers.Attached.{Attached}
-use Rattle.ports.specs.declared.answers.Polled.{Polled}
-use Rattle.ports.specs.declared.answers.Requested.{Requested}
-use Rattle.ports.specs.declared.answers.Collected.{Collected}
-use Rattle.ports.specs.declared.answers.Taken.{Taken}
-use Rattle.ports.specs.declared.answers.Expedited.{Expedited}
-use Rattle.ports.specs.declared.answers.Fetched.{Fetched}
-use Rattle.ports.specs.declared.answers.Dropped.{Dropped}
+use Rattle.ports.specs.declared.disconnection.Disconnection.{Disconnection}
+use Rattle.ports.specs.declared.answers.AttachFailure.{AttachFailure}
+use Rattle.ports.specs.declared.answers.Failure.{Failure}
+use Rattle.ports.specs.declared.answers.Handed.{Handed}
 use Rattle.ports.specs.Call.{Call}
 use Rattle.ports.specs.Calls.{configure_call, attach_call, poll_call, request_call, collect_call, take_call, expedite_call, fetch_call, drop_call}
 
@@ -29,15 +28,15 @@ pub data Asked : Type 0 where
   drop : Asked
 
 abbrev pub AnswerTo : Asked → Type 0
-AnswerTo (configure ts) = Configured
-AnswerTo attach = Attached
-AnswerTo poll = Polled
-AnswerTo (request r bs) = Requested
-AnswerTo collect = Collected
-AnswerTo take = Taken
-AnswerTo (expedite response) = Expedited
-AnswerTo (fetch address long buffer) = Fetched × List ℕ
-AnswerTo drop = Dropped
+AnswerTo (configure ts) = Result (Unit {0}) Refusal
+AnswerTo attach = Result (Unit {0}) AttachFailure
+AnswerTo poll = Result Marks Failure
+AnswerTo (request r bs) = Result (Unit {0}) Failure
+AnswerTo collect = Result SynchronousStatus Failure
+AnswerTo take = Result Handed Failure
+AnswerTo (expedite response) = Result ExpeditedStatus Failure
+AnswerTo (fetch address long buffer) = Result (Unit {0}) Failure × List ℕ
+AnswerTo drop = Result Disconnection Refusal
 
 -- by what the unit is made for, at a port and what its line tells
 abbrev pub call : Attachment → (q : Asked) → Port → State → Call (AnswerTo q)

@@ -1,3 +1,4 @@
+pub mod Results
 pub mod Port
 pub mod Numbers
 pub mod Terminals

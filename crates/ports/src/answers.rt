@@ -1,206 +1,183 @@
 // What each call answers. A refusal has its own number, a disconnection that of its cause; 0 stands for a
-// call that did what it was asked.
-ghost use Rattle.std.specs.Prelude.{◌≡◌};
-ghost use Rattle.ports.specs.Numbers.{number_configured, number_attached, number_polled, number_requested, number_collected, number_taken, number_expedited, number_fetched, number_dropped};
+// call that did what it was asked. Which numbers come beside 0, and beside 1 where there is no such port:
+//
+//   configure  () or refused by 2, 4
+//   attach     () or refused by 3, 4; 27; 21
+//   poll       the marks that are set now, or refused by 3, 5; 21, 22, 23
+//   request    () or refused by 3, 5, 6, 7, 8, 9; 21: accepted, and lost
+//   collect    the record of the request's end, or refused by 3, 5, 10, 11; 21
+//   take       the event, with 25 if the port is disconnected after it, or refused by 3, 5, 10, 11; 21, 24
+//   expedite   the record, or refused by 3, 5, 10; 21
+//   fetch      (), the bytes stand in the buffer, or refused by 3, 5, 6, 9; 21
+//   drop       26 in place of 0, or refused by 3, 5
+ghost use Rattle.std.specs.Prelude.{◌≡◌, ℕ};
+ghost use Rattle.codes.specs.Numbers.{refusal_number};
+ghost use Rattle.ports.specs.Results.{by_result};
+ghost use Rattle.ports.specs.Numbers.{number_done, number_told, number_handed, number_failed, number_not_attached};
+ghost use Rattle.ports.specs.declared.answers.Failure.TheVariants.{Refused, Disconnected};
+ghost use Rattle.ports.specs.declared.answers.AttachFailure.TheVariants.{Refused as NotTried, Disconnected as BrokenOff};
 
 use crate::disconnection::Disconnection;
 use crate::port::Marks;
 use codes::number::{Ending, Refusal};
 use tca::status::{Event, ExpeditedStatus, SynchronousStatus};
 
+// Why a call on a connected port did not do what it was asked.
 #[derive(Clone, Copy)]
-pub enum Configured {
-    // 2, 4; 1 where there is no such port
+pub enum Failure {
+    // nothing has changed
     Refused(Refusal),
-    // 0
-    Set,
+    // the port was connected, and is no more
+    Disconnected(Disconnection),
 }
 
+// Why a port was not attached.
 #[derive(Clone, Copy)]
-pub enum Attached {
-    // 3, 4; 1 where there is no such port
+pub enum AttachFailure {
+    // nothing has changed
     Refused(Refusal),
-    // 0: the unit's ready report was accepted
-    Accepted,
-    // 27: no restart waited, and the device was reset
+    // no restart waited, and the device was reset
     NotWaiting,
-    // 21: nothing was accepted, and nothing is lost
+    // nothing was accepted, and nothing is lost
     Disconnected(Disconnection),
 }
 
+// An event that is handed over; after a permanent error the port is disconnected.
 #[derive(Clone, Copy)]
-pub enum Polled {
-    // 3, 5; 1 where there is no such port
-    Refused(Refusal),
-    // 0, with the marks that are set now
-    Marked(Marks),
-    // 21, 22, 23
-    Disconnected(Disconnection),
+pub struct Handed {
+    pub event: Event,
+    pub disconnection: Option<Disconnection>,
 }
 
-#[derive(Clone, Copy)]
-pub enum Requested {
-    // 3, 5, 6, 7, 8, 9; 1 where there is no such port
-    Refused(Refusal),
-    // 0
-    Accepted,
-    // 21: accepted, and lost
-    Disconnected(Disconnection),
+impl From<Refusal> for Failure {
+    ghost from_gives = { λ n e. e ≡ Refused n };
+
+    fn from(refusal: Refusal) -> Failure {
+        Failure::Refused(refusal)
+    }
 }
 
-#[derive(Clone, Copy)]
-pub enum Collected {
-    // 3, 5, 10, 11; 1 where there is no such port
-    Refused(Refusal),
-    // 0, with the record of the request's end
-    Record(SynchronousStatus),
-    // 21
-    Disconnected(Disconnection),
+impl From<Disconnection> for Failure {
+    ghost from_gives = { λ d e. e ≡ Disconnected d };
+
+    fn from(disconnection: Disconnection) -> Failure {
+        Failure::Disconnected(disconnection)
+    }
 }
 
-#[derive(Clone, Copy)]
-pub enum Taken {
-    // 3, 5, 10, 11; 1 where there is no such port
-    Refused(Refusal),
-    // 0, with the event
-    Handed(Event),
-    // 25: the event is handed over, and the port is disconnected
-    HandedAndDisconnected(Event, Disconnection),
-    // 21, 24: nothing is handed over
-    Disconnected(Disconnection),
+impl From<Refusal> for AttachFailure {
+    ghost from_gives = { λ n e. e ≡ NotTried n };
+
+    fn from(refusal: Refusal) -> AttachFailure {
+        AttachFailure::Refused(refusal)
+    }
 }
 
-#[derive(Clone, Copy)]
-pub enum Expedited {
-    // 3, 5, 10; 1 where there is no such port
-    Refused(Refusal),
-    // 0, with the record
-    Record(ExpeditedStatus),
-    // 21
-    Disconnected(Disconnection),
+impl From<Disconnection> for AttachFailure {
+    ghost from_gives = { λ d e. e ≡ BrokenOff d };
+
+    fn from(disconnection: Disconnection) -> AttachFailure {
+        AttachFailure::Disconnected(disconnection)
+    }
 }
 
-#[derive(Clone, Copy)]
-pub enum Fetched {
-    // 3, 5, 6, 9; 1 where there is no such port
-    Refused(Refusal),
-    // 0; the bytes stand in the buffer
-    Read,
-    // 21
-    Disconnected(Disconnection),
+// The number of what did what it was asked.
+const DONE: u8 = 0;
+
+// What has a number under which the host is told of it.
+pub trait Numbered {
+    ghost number: { Self → ℕ };
+
+    fn number(self) -> u8
+        ensures { result ≡ number self };
 }
 
-#[derive(Clone, Copy)]
-pub enum Dropped {
-    // 3, 5; 1 where there is no such port
-    Refused(Refusal),
-    // 26
-    Disconnected(Disconnection),
+impl Numbered for () {
+    ghost number = { number_done };
+
+    fn number(self) -> u8 {
+        DONE
+    }
 }
 
-impl Configured {
-    pub fn number(self) -> u8
-        ensures { result ≡ number_configured self }
-    {
+impl Numbered for Marks {
+    ghost number = { number_done };
+
+    fn number(self) -> u8 {
+        DONE
+    }
+}
+
+impl Numbered for SynchronousStatus {
+    ghost number = { number_done };
+
+    fn number(self) -> u8 {
+        DONE
+    }
+}
+
+impl Numbered for ExpeditedStatus {
+    ghost number = { number_done };
+
+    fn number(self) -> u8 {
+        DONE
+    }
+}
+
+impl Numbered for Refusal {
+    ghost number = { refusal_number };
+
+    fn number(self) -> u8 {
+        u8::from(self)
+    }
+}
+
+impl Numbered for Disconnection {
+    ghost number = { number_told };
+
+    fn number(self) -> u8 {
+        u8::from(self.cause)
+    }
+}
+
+impl Numbered for Handed {
+    ghost number = { number_handed };
+
+    fn number(self) -> u8 {
+        self.disconnection.map_or(DONE, Disconnection::number)
+    }
+}
+
+impl Numbered for Failure {
+    ghost number = { number_failed };
+
+    fn number(self) -> u8 {
         match self {
-            Configured::Refused(refusal) => refusal.number(),
-            Configured::Set => 0,
+            Failure::Refused(refusal) => refusal.number(),
+            Failure::Disconnected(disconnection) => disconnection.number(),
         }
     }
 }
 
-impl Attached {
-    pub fn number(self) -> u8
-        ensures { result ≡ number_attached self }
-    {
+impl Numbered for AttachFailure {
+    ghost number = { number_not_attached };
+
+    fn number(self) -> u8 {
         match self {
-            Attached::Refused(refusal) => refusal.number(),
-            Attached::Accepted => 0,
-            Attached::NotWaiting => Ending::NotWaiting.number(),
-            Attached::Disconnected(end) => end.cause.number(),
+            AttachFailure::Refused(refusal) => refusal.number(),
+            AttachFailure::NotWaiting => u8::from(Ending::NotWaiting),
+            AttachFailure::Disconnected(disconnection) => disconnection.number(),
         }
     }
 }
 
-impl Polled {
-    pub fn number(self) -> u8
-        ensures { result ≡ number_polled self }
-    {
-        match self {
-            Polled::Refused(refusal) => refusal.number(),
-            Polled::Marked(_) => 0,
-            Polled::Disconnected(end) => end.cause.number(),
-        }
-    }
-}
+impl<T: Numbered, E: Numbered> Numbered for Result<T, E> {
+    ghost number = { by_result T.number E.number };
 
-impl Requested {
-    pub fn number(self) -> u8
-        ensures { result ≡ number_requested self }
-    {
+    fn number(self) -> u8 {
         match self {
-            Requested::Refused(refusal) => refusal.number(),
-            Requested::Accepted => 0,
-            Requested::Disconnected(end) => end.cause.number(),
-        }
-    }
-}
-
-impl Collected {
-    pub fn number(self) -> u8
-        ensures { result ≡ number_collected self }
-    {
-        match self {
-            Collected::Refused(refusal) => refusal.number(),
-            Collected::Record(_) => 0,
-            Collected::Disconnected(end) => end.cause.number(),
-        }
-    }
-}
-
-impl Taken {
-    pub fn number(self) -> u8
-        ensures { result ≡ number_taken self }
-    {
-        match self {
-            Taken::Refused(refusal) => refusal.number(),
-            Taken::Handed(_) => 0,
-            Taken::HandedAndDisconnected(_, end) | Taken::Disconnected(end) => end.cause.number(),
-        }
-    }
-}
-
-impl Expedited {
-    pub fn number(self) -> u8
-        ensures { result ≡ number_expedited self }
-    {
-        match self {
-            Expedited::Refused(refusal) => refusal.number(),
-            Expedited::Record(_) => 0,
-            Expedited::Disconnected(end) => end.cause.number(),
-        }
-    }
-}
-
-impl Fetched {
-    pub fn number(self) -> u8
-        ensures { result ≡ number_fetched self }
-    {
-        match self {
-            Fetched::Refused(refusal) => refusal.number(),
-            Fetched::Read => 0,
-            Fetched::Disconnected(end) => end.cause.number(),
-        }
-    }
-}
-
-impl Dropped {
-    pub fn number(self) -> u8
-        ensures { result ≡ number_dropped self }
-    {
-        match self {
-            Dropped::Refused(refusal) => refusal.number(),
-            Dropped::Disconnected(end) => end.cause.number(),
+            Ok(answer) => answer.number(),
+            Err(failure) => failure.number(),
         }
     }
 }

@@ -1,6 +1,6 @@
 // What a poll saw, before anything is made of it.
 
-#[derive(Clone, Copy)]
+#[derive(Clone, Copy, PartialEq, Eq)]
 pub enum Seen {
     // a restart waits
     Restart,

@@ -4,7 +4,7 @@ ghost use Rattle.ports.specs.Turn.{new_table};
 
 use crate::port::Port;
 
-#[derive(Clone, Copy)]
+#[derive(Clone, Copy, PartialEq, Eq)]
 pub struct Table {
     pub ports: [Port; 32],
     pub last: u8,

@@ -1,6 +1,6 @@
 // What is made of an event.
 
-#[derive(Clone, Copy)]
+#[derive(Clone, Copy, PartialEq, Eq)]
 pub enum Verdict {
     NotAllowed,
     // with the logical terminals that are online after it

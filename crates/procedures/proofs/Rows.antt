@@ -1,5 +1,5 @@
 -- What rows of reads and of writes leave, once they went through.
-use Rattle.std.proofs.Common.{◌≡◌, ℕ, zero, suc, ◌+◌, ◌<◌, false, eqb, List, [], ◌∷◌, length, get_or, sym, refl, ap, ◌∙◌, add-zero, arith, ne_eqb}
+use Rattle.std.proofs.Common.{◌≡◌, ℕ, zero, suc, ◌+◌, ◌-◌, ◌<◌, ◌≤◌, false, eqb, List, [], ◌∷◌, length, get_or, sym, refl, ap, ◌∙◌, add-one, add-zero, arith, ne_eqb}
 use Rattle.line.specs.State.{Device, State, at}
 use Rattle.line.specs.Rules.{is_in, bytes_at}
 use Rattle.line.specs.Posts.{put_row}
@@ -36,6 +36,15 @@ writes_leave (p ∷ ps) (b ∷ bs) t u x (y, m, first, rest) =
     let i = write_leaves p b t m y first in
     let j = writes_leave ps bs m u x rest in
     j ∙ ap (λ (d : Device). with_memory (put_row ps bs d.memory) d) i
+
+-- what is left of a rising row, up to below n
+pub rising_next : (a n : ℕ) → a < n → rising a (n - a) ≡ a ∷ rising (a + 1) (n - (a + 1))
+unfolding rising
+rising_next a n h = let e : n - a ≡ suc (n - suc a) = omega arith in rw (add-one a, e) refl
+
+pub none_rising : (a n : ℕ) → n ≤ a → rising a (n - a) ≡ []
+unfolding rising
+none_rising a n h = let e : n - a ≡ 0 = omega arith in rw e refl
 
 -- a rising row has no address below its first
 pub rising_from : (a n j : ℕ) → j < a → is_in (rising a n) j ≡ false

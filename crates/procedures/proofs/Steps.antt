@@ -1,5 +1,5 @@
 -- How performing a procedure is put together, step by step, as code goes through it.
-use Rattle.std.proofs.Common.{◌≡◌, ℕ, suc, ◌+◌, ◌<◌, ◌≤◌, Bool, true, false, List, [], ◌∷◌, ◌++◌, length, get_or, drop, IsErrAnd, Some, Ok, Err, Option, Result, sym, refl, ap, ◌∙◌, inl, inr, append_assoc, append-nil, add-one, drop-cons}
+use Rattle.std.proofs.Common.{◌≡◌, ℕ, suc, ◌+◌, ◌<◌, ◌≤◌, ◌⊎◌, Bool, true, false, List, [], ◌∷◌, ◌++◌, length, get_or, drop, IsErrAnd, Some, Ok, Err, Option, Result, sym, refl, ap, ◌∙◌, inl, inr, append_assoc, append-nil, add-one, drop-cons}
 use Rattle.std.proofs.lemmas.Result.{err_from_is_err_and}
 use Rattle.std.proofs.lemmas.List.{drop_all}
 use Rattle.line.specs.declared.command.Command.{Command}
@@ -59,21 +59,22 @@ module _ {S : Type 0} {W : Step S} where
   pub else : {A : Type 0} (p : Procedure A) {q : Procedure A} {s t : S} {r : Result A Silence} (b : Bool) → b ≡ false → Performs W q s r t → Performs W (either b p q) s r t
   else p b e u = rw e u
 
-  -- rows of writes, at an index
-  pub row_more : (ps bs : List ℕ) (i : ℕ) (p : Procedure (Unit {0})) (s m n : S) → i < length ps → i < length bs → Led W p s (writes_row (drop i ps) (drop i bs)) m
-      → Performs W (writes (get_or ps i 0) (get_or bs i 0)) m (Ok tt) n → Led W p s (writes_row (drop (i + 1) ps) (drop (i + 1) bs)) n
-  row_more ps bs i p s m n h k led u r t v = led r t (rw (drop-cons ps i 0 h, drop-cons bs i 0 k) (u ▸ rw (add-one i) at v))
+  -- rows of writes, by what is left of them
+  pub row_more : {a b : ℕ} {ps bs qs cs : List ℕ} (p : Procedure (Unit {0})) (s m n : S) → qs ≡ a ∷ ps → cs ≡ b ∷ bs → Led W p s (writes_row qs cs) m → Performs W (writes a b) m (Ok tt) n → Led W p s (writes_row ps bs) n
+  row_more p s m n e f led u r t v = led r t (rw (e, f) (u ▸ v))
 
-  pub row_broken : (ps bs : List ℕ) (i : ℕ) (p : Procedure (Unit {0})) (s m t : S) (e : Silence) (r : Result (Unit {0}) Silence) → IsErrAnd r (λ y. y ≡ e) → i < length ps → i < length bs → Led W p s (writes_row (drop i ps) (drop i bs)) m
-      → Performs W (writes (get_or ps i 0) (get_or bs i 0)) m (Err e) t → Performs W p s r t
-  row_broken ps bs i p s m t e r x h k led u = led _ _ (rw (drop-cons ps i 0 h, drop-cons bs i 0 k) (stops r x u))
+  pub row_broken : {a b : ℕ} {ps bs qs cs : List ℕ} {e : Silence} (p : Procedure (Unit {0})) (s m t : S) (r : Result (Unit {0}) Silence) → IsErrAnd r (λ y. y ≡ e) → qs ≡ a ∷ ps → cs ≡ b ∷ bs → Led W p s (writes_row qs cs) m
+      → Performs W (writes a b) m (Err e) t → Performs W p s r t
+  row_broken p s m t r h e f led u = led r t (rw (e, f) (stops r h u))
 
   -- it ends with the places or with the bytes
-  pub row_done : (ps bs : List ℕ) (i : ℕ) (p : Procedure (Unit {0})) (s m : S) → length ps ≤ i → Led W p s (writes_row (drop i ps) (drop i bs)) m → Performs W p s (Ok tt) m
-  row_done ps bs i p s m e led = led (Ok tt) m (rw (drop_all i ps e) given)
+  none_left : (qs cs : List ℕ) (m : S) → (qs ≡ []) ⊎ (cs ≡ []) → Performs W (writes_row qs cs) m (Ok tt) m
+  none_left qs cs m (inl e) = rw e given
+  none_left [] cs m (inr f) = given
+  none_left (a ∷ ps) cs m (inr f) = rw f given
 
-  pub row_short : (ps bs : List ℕ) (i : ℕ) (p : Procedure (Unit {0})) (s m : S) → i < length ps → length bs ≤ i → Led W p s (writes_row (drop i ps) (drop i bs)) m → Performs W p s (Ok tt) m
-  row_short ps bs i p s m h e led = led (Ok tt) m (rw (drop_all i bs e, drop-cons ps i 0 h) given)
+  pub row_done : {qs cs : List ℕ} (p : Procedure (Unit {0})) (s m : S) → (qs ≡ []) ⊎ (cs ≡ []) → Led W p s (writes_row qs cs) m → Performs W p s (Ok tt) m
+  row_done {qs} {cs} p s m e led = led (Ok tt) m (none_left qs cs m e)
 
   -- rows of reads, at an index
   read_then : (a b : ℕ) (ps : List ℕ) (m n t : S) (r : Result (List ℕ) Silence) → Performs W (reads a) m (Ok b) n → Performs W (reads_row ps) n r t → Performs W (reads_row (a ∷ ps)) m (prepend (b ∷ []) r) t

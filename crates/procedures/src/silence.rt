@@ -16,17 +16,17 @@ pub enum CommandKind {
     Reset,
 }
 
-// The address is 0 where the command has none.
+// The address stands beside the kind and is 0 where the command has none, as the interface tells it.
 #[derive(Clone, Copy)]
 pub struct Silence {
     pub command: CommandKind,
     pub address: u16,
 }
 
-impl Silence {
-    pub fn of(command: Command) -> Silence
-        ensures { result ≡ silence_of command }
-    {
+impl From<Command> for Silence {
+    ghost from_gives = { λ c e. e ≡ silence_of c };
+
+    fn from(command: Command) -> Silence {
         let (command, address) = match command {
             Command::Poll => (CommandKind::Poll, 0),
             Command::Read(address) => (CommandKind::Read, address),

@@ -1,1 +1,2 @@
 pub mod Connections
+pub mod Statuses

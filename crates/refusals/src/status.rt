@@ -1,39 +1,42 @@
 // The calls that ask for a status: only where its mark is set, and an expedited one comes before the others.
 ghost use Rattle.std.specs.Prelude.{◌≡◌};
+ghost use Rattle.std.specs.Result.{result_err};
 ghost use Rattle.ports.specs.Refusals.{refuse_connected, refuse_collect, refuse_take, refuse_expedite};
+ghost use Rattle.refusals.specs.Statuses.{refuse_status};
 
 use crate::connected::connection;
 use codes::number::Refusal;
 use ports::port::Port;
 
-pub fn refuse_collect(port: &Port) -> Option<Refusal>
-    ensures { result ≡ refuse_connected refuse_collect port.now }
+fn refuse_status(is_marked: bool, comes_second: bool) -> Result<(), Refusal>
+    ensures { result_err result ≡ refuse_status is_marked comes_second }
 {
-    match connection(port) {
-        Err(refusal) => Some(refusal),
-        Ok(connection) if !connection.marks.ended => Some(Refusal::NotMarked),
-        Ok(connection) if connection.marks.expedited => Some(Refusal::ExpeditedFirst),
-        Ok(_) => None,
+    if !is_marked {
+        return Err(Refusal::NotMarked);
     }
+    if comes_second {
+        return Err(Refusal::ExpeditedFirst);
+    }
+    Ok(())
 }
 
-pub fn refuse_take(port: &Port) -> Option<Refusal>
-    ensures { result ≡ refuse_connected refuse_take port.now }
+pub fn refuse_collect(port: &Port) -> Result<(), Refusal>
+    ensures { result_err result ≡ refuse_connected refuse_collect port.now }
 {
-    match connection(port) {
-        Err(refusal) => Some(refusal),
-        Ok(connection) if !connection.marks.asynchronous => Some(Refusal::NotMarked),
-        Ok(connection) if connection.marks.expedited => Some(Refusal::ExpeditedFirst),
-        Ok(_) => None,
-    }
+    let marks = connection(port)?.marks;
+    refuse_status(marks.ended, marks.expedited)
 }
 
-pub fn refuse_expedite(port: &Port) -> Option<Refusal>
-    ensures { result ≡ refuse_connected refuse_expedite port.now }
+pub fn refuse_take(port: &Port) -> Result<(), Refusal>
+    ensures { result_err result ≡ refuse_connected refuse_take port.now }
 {
-    match connection(port) {
-        Err(refusal) => Some(refusal),
-        Ok(connection) if !connection.marks.expedited => Some(Refusal::NotMarked),
-        Ok(_) => None,
-    }
+    let marks = connection(port)?.marks;
+    refuse_status(marks.asynchronous, marks.expedited)
+}
+
+pub fn refuse_expedite(port: &Port) -> Result<(), Refusal>
+    ensures { result_err result ≡ refuse_connected refuse_expedite port.now }
+{
+    let marks = connection(port)?.marks;
+    refuse_status(marks.expedited, false)
 }

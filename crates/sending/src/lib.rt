@@ -20,34 +20,29 @@ const MOST_SENDINGS: u8 = 32;
 pub fn send<L: Line>(line: &mut L, command: Command) -> Result<Reply, Silence>
     ensures { Performs L.Line.step (sends command) line.old result line.new }
 {
+    // no `find_map`: a proof loses the line that a chain's closure changes
     for _ in 0..MOST_SENDINGS {
         if let Some(reply) = issue(line, command) {
             return Ok(reply);
         }
     }
-    Err(Silence::of(command))
+    Err(Silence::from(command))
 }
 
-fn byte_in(reply: Reply) -> u8
-    ensures { result ≡ byte_of reply }
-{
-    match reply {
-        Reply::Byte(byte) => byte,
-        _ => 0,
-    }
-}
-
+// The byte at an address; no line answers a Read by anything else.
 pub fn read<L: Line>(line: &mut L, address: u16) -> Result<u8, Silence>
     ensures { Performs L.Line.step (reads address) line.old result line.new }
 {
-    let reply = send(line, Command::Read(address))?;
-    Ok(byte_in(reply))
+    match send(line, Command::Read(address))? {
+        Reply::Byte(byte) => Ok(byte),
+        Reply::Done | Reply::Polled(_) => Ok(0),
+    }
 }
 
 pub fn write<L: Line>(line: &mut L, address: u16, value: u8) -> Result<(), Silence>
     ensures { Performs L.Line.step (writes address value) line.old result line.new }
 {
-    let _ = send(line, Command::Write(address, value))?;
+    send(line, Command::Write(address, value))?;
     Ok(())
 }
 
@@ -55,5 +50,5 @@ pub fn write<L: Line>(line: &mut L, address: u16, value: u8) -> Result<(), Silen
 pub fn reset<L: Line>(line: &mut L)
     ensures { Performs L.Line.step (once Reset) line.old (Ok tt) line.new }
 {
-    let _ = line.reset();
+    line.reset();
 }

@@ -5,35 +5,28 @@ ghost use Rattle.procedures.specs.Performs.{Performs, as_bytes};
 use crate::{read, write};
 use line::Line;
 use procedures::silence::Silence;
-use tca::family::{Family, Readable};
+use tca::family::Readable;
 
-// The most bytes that a status record has.
-const LONGEST_RECORD: usize = 6;
-
-// Each byte to the place of its index, in order, as far as there are both.
+// Each byte to its place, in order, as far as there are both.
 pub fn write_row<L: Line>(line: &mut L, places: &[u16], bytes: &[u8]) -> Result<(), Silence>
     ensures { Performs L.Line.step (writes_row «places».now «bytes».now) line.old result line.new }
 {
-    for (i, place) in places.iter().enumerate() {
-        let Some(byte) = bytes.get(i) else {
-            return Ok(());
-        };
+    for (place, byte) in places.iter().zip(bytes) {
         write(line, *place, *byte)?;
     }
     Ok(())
 }
 
 // The record of a family, read in the order of its places.
-pub fn read_status<F: Readable, L: Line>(line: &mut L) -> Result<F::Record, Silence>
+pub fn read_status<F: Readable<N>, const N: usize, L: Line>(
+    line: &mut L,
+) -> Result<F::Record, Silence>
     ensures { Performs L.Line.step (reads_row F.Family.places) line.old (as_bytes F.Family.bytes result) line.new }
 {
-    let mut bytes = [0; LONGEST_RECORD];
-    let places = F::places();
-    for (i, place) in places.iter().enumerate() {
+    let mut bytes = [0; N];
+    // by index: a proof does not see what a zip with `iter_mut` writes
+    for (i, place) in F::places().iter().enumerate() {
         bytes[i] = read(line, *place)?;
     }
-    match F::from_slice(&bytes[..places.len()]) {
-        Some(record) => Ok(record),
-        None => unreachable(),
-    }
+    Ok(F::from_slice(&bytes).unwrap())
 }

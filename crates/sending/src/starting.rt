@@ -15,9 +15,9 @@ use tca::request::{Request, request_places};
 pub fn start<L: Line>(line: &mut L, request: Request, cusyn: u8) -> Result<(), Silence>
     ensures { Performs L.Line.step (starts request cusyn) line.old result line.new }
 {
-    write_row(line, &request_places(), &request.to_bytes())?;
+    write_row(line, &request_places(), &<[u8; 8]>::from(request))?;
     write(line, DPSSTAT.address, 0)?;
     write(line, CUSYN.address, cusyn)?;
-    let _ = send(line, Command::Start)?;
+    send(line, Command::Start)?;
     Ok(())
 }

@@ -1,49 +1,36 @@
 // The calls on a disconnected port: configure and attach.
-ghost use Rattle.std.specs.Prelude.{◌≡◌};
-ghost use Rattle.ports.specs.declared.answers.Configured.TheVariants.{Set};
-ghost use Rattle.ports.specs.Port.{no_marks};
+ghost use Rattle.std.specs.Prelude.{◌≡◌, Ok};
 ghost use Rattle.ports.specs.Calls.{configured_after, attach_answer, attached_after};
 
 use crate::leaving::silenced;
-use ports::answers::{Attached, Configured};
-use ports::port::{Connection, Marks, Port, PortState, Work};
+use ports::answers::AttachFailure;
+use ports::port::{Connection, Marks, Port};
 use procedures::silence::Silence;
 use tca::request::Request;
 
-pub(crate) fn no_marks() -> Marks
-    ensures { result ≡ no_marks }
-{
-    Marks {
-        expedited: false,
-        ended: false,
-        asynchronous: false,
-    }
-}
-
-pub fn settle_configure(port: &mut Port, terminals: [u8; 5]) -> Configured
-    ensures value { result ≡ Set }
-    ensures after { port.new ≡ configured_after terminals port.old result }
+pub fn settle_configure(port: &mut Port, terminals: [u8; 5])
+    ensures { port.new ≡ configured_after terminals port.old (Ok tt) }
 {
     port.terminals = terminals;
-    Configured::Set
 }
 
-// The unit's ready report is the first request, so an attached port is active.
-pub fn settle_attach(port: &mut Port, attached: Result<bool, Silence>) -> Attached
+// The unit's ready report is the first request, so an attached port is active. Whether a restart waited comes as a
+// yes or no, which is made a failure only here.
+pub fn settle_attach(port: &mut Port, attached: Result<bool, Silence>) -> Result<(), AttachFailure>
     ensures value { result ≡ attach_answer attached }
     ensures after { port.new ≡ attached_after port.old result }
 {
     match attached {
         Ok(true) => {
-            port.state = PortState::Connected(Connection {
+            port.connection = Some(Connection {
                 cusyn: 1,
-                marks: no_marks(),
+                marks: Marks::default(),
                 online: 0,
-                work: Work::Active(Request::cu_ready()),
+                request: Some(Request::cu_ready()),
             });
-            Attached::Accepted
+            Ok(())
         }
-        Ok(false) => Attached::NotWaiting,
-        Err(silence) => Attached::Disconnected(silenced(silence, None)),
+        Ok(false) => Err(AttachFailure::NotWaiting),
+        Err(silence) => Err(silenced(silence, None).into()),
     }
 }

@@ -1,29 +1,15 @@
 // A port's disconnection, which leaves nothing but the addresses, and what is told of it.
-ghost use Rattle.std.specs.Prelude.{◌≡◌};
-ghost use Rattle.ports.specs.declared.answers.Dropped.TheVariants.{Disconnected as drop_done};
-ghost use Rattle.ports.specs.Port.{held as holding, disconnected};
-ghost use Rattle.ports.specs.Calls.{broken_by, dropped_by, dropped_after};
-ghost use Rattle.settling.specs.Settled.{left_by};
+ghost use Rattle.std.specs.Prelude.{◌≡◌, Ok};
+ghost use Rattle.ports.specs.Port.{disconnected};
+ghost use Rattle.ports.specs.Calls.{broken_by, answered_after, dropped_by, dropped_after};
+ghost use Rattle.settling.specs.Settled.{left_by, found as found_by};
 
 use codes::number::Ending;
-use ports::answers::Dropped;
+use ports::answers::Failure;
 use ports::disconnection::Disconnection;
-use ports::port::{Port, PortState, Work};
+use ports::port::Port;
 use procedures::silence::{CommandKind, Silence};
 use tca::request::Request;
-
-// The request that is lost with a connection.
-fn held(state: PortState) -> Option<Request>
-    ensures { result ≡ holding state }
-{
-    match state {
-        PortState::Connected(connection) => match connection.work {
-            Work::Active(request) => Some(request),
-            Work::Idle => None,
-        },
-        PortState::Disconnected => None,
-    }
-}
 
 // What is told of a silence. The lost request is given, since one that was just begun is not yet the port's.
 pub(crate) fn silenced(silence: Silence, lost: Option<Request>) -> Disconnection
@@ -31,8 +17,7 @@ pub(crate) fn silenced(silence: Silence, lost: Option<Request>) -> Disconnection
 {
     Disconnection {
         cause: Ending::Silence,
-        command: Some(silence.command),
-        address: silence.address,
+        last: Some((silence.command, silence.address)),
         lost,
     }
 }
@@ -41,38 +26,35 @@ pub(crate) fn silenced(silence: Silence, lost: Option<Request>) -> Disconnection
 pub(crate) fn leave(
     port: &mut Port,
     cause: Ending,
-    command: Option<CommandKind>,
-    address: u16,
+    last: Option<(CommandKind, u16)>,
 ) -> Disconnection
-    ensures value { result ≡ left_by cause command address port.old }
+    ensures value { result ≡ left_by cause last port.old }
     ensures after { port.new ≡ disconnected port.old }
 {
-    let lost = held(port.state);
-    port.state = PortState::Disconnected;
-    Disconnection {
-        cause,
-        command,
-        address,
-        lost,
+    let lost = port.held();
+    port.connection = None;
+    Disconnection { cause, last, lost }
+}
+
+// What came back from a connected port's line; a silence disconnects the port.
+pub(crate) fn found<T>(port: &mut Port, read: Result<T, Silence>) -> Result<T, Failure>
+    ensures value { result ≡ found_by port.old read }
+    ensures after { port.new ≡ answered_after (λ _. port.old) port.old result }
+{
+    match read {
+        Ok(found) => Ok(found),
+        Err(silence) => {
+            let told = silenced(silence, port.held());
+            port.connection = None;
+            Err(told.into())
+        }
     }
 }
 
-pub(crate) fn leave_silent(port: &mut Port, silence: Silence) -> Disconnection
-    ensures value { result ≡ broken_by silence (holding port.old.state) }
-    ensures after { port.new ≡ disconnected port.old }
-{
-    leave(
-        port,
-        Ending::Silence,
-        Some(silence.command),
-        silence.address,
-    )
-}
-
 // No command is told of a drop.
-pub fn settle_drop(port: &mut Port) -> Dropped
-    ensures value { result ≡ drop_done (dropped_by port.old) }
-    ensures after { port.new ≡ dropped_after port.old result }
+pub fn settle_drop(port: &mut Port) -> Disconnection
+    ensures value { result ≡ dropped_by port.old }
+    ensures after { port.new ≡ dropped_after port.old (Ok result) }
 {
-    Dropped::Disconnected(leave(port, Ending::Dropped, None, 0))
+    leave(port, Ending::Dropped, None)
 }

@@ -2,22 +2,14 @@
 use Rattle.std.specs.Prelude.{ℕ, Bool, true, false, not, ◌&&◌, [], replicate, vec_items, ◌==◌}
 use Rattle.tca.specs.Fields.{cusyn}
 use Rattle.line.specs.State.{Device, State, Choice, answered, at}
+use Rattle.line.specs.Told.{device_with, state_with}
 use Rattle.simulated.specs.declared.device.SimulatedDevice.{SimulatedDevice}
 
 abbrev pub device_of : SimulatedDevice → Device
-device_of s = record {
-  memory = vec_items s.memory;
-  waiting = s.waiting;
-  working = s.working;
-  seen = s.seen;
-  last = s.last;
-  taken = s.taken;
-  events = s.events;
-  expedited = s.expedited;
-}
+device_of s = device_with (vec_items s.memory.bytes) s.registers
 
 abbrev pub state_of : SimulatedDevice → State
-state_of s = record { device = device_of s; row = s.row }
+state_of s = state_with (vec_items s.memory.bytes) s.registers
 
 -- The choice of a line that loses nothing, of a device that does nothing of its own accord and holds zeros
 -- after a restart.

@@ -1,5 +1,8 @@
-ghost use Rattle.std.specs.Prelude.{◌≡◌, ◌^◌, ◌<◌, ◌≤◌, true, length, vec_len};
+ghost use Rattle.std.specs.Prelude.{◌≡◌, ◌^◌, ◌<◌, ◌≤◌, true, length};
 ghost use Rattle.simulated.specs.New.{is_new};
+
+use crate::memory::Memory;
+use line::telling::Registers;
 
 mod commands;
 mod made;
@@ -10,18 +13,21 @@ mod restored;
 // its own program does within a Poll is for the line that holds it.
 #[derive(Drop)]
 pub struct SimulatedDevice {
-    memory: Vec<u8>,
-    waiting: bool,
-    working: bool,
-    seen: u8,
-    last: [u8; 8],
-    taken: u32,
-    events: u32,
-    expedited: u32,
-    row: u8,
-    ghost large: { 256 ≤ vec_len memory },
-    ghost small: { vec_len memory ≤ 32768 },
-    ghost eight: { length last ≡ 8 },
-    ghost fits: { (taken < 2 ^ 32) × (events < 2 ^ 32) × (expedited < 2 ^ 32) × (row ≤ 255) },
-    ghost new_while_waiting: { (waiting ≡ true → is_new memory.items working seen taken events expedited ≡ true) },
+    memory: Memory,
+    registers: Registers,
+    ghost eight: { length registers.last ≡ 8 },
+    ghost fits: { (registers.taken < 2 ^ 32) × (registers.events < 2 ^ 32) × (registers.expedited < 2 ^ 32) × (registers.row ≤ 255) },
+    ghost new_while_waiting: { (registers.waiting ≡ true → is_new memory.bytes.items registers ≡ true) },
 }
+
+// As a restart leaves them, but for the request taken last and the row, which stay as they are.
+const RESTARTED: Registers = Registers {
+    waiting: true,
+    working: false,
+    seen: 0,
+    last: [0; 8],
+    taken: 0,
+    events: 0,
+    expedited: 0,
+    row: 0,
+};

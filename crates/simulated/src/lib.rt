@@ -2,5 +2,6 @@
 #![tactic(auto)]
 
 pub mod device;
+mod memory;
 pub mod size;
 pub mod snapshot;

@@ -8,11 +8,11 @@ pub enum MemorySize {
     Printer,
 }
 
-impl MemorySize {
-    pub fn bytes(self) -> usize
-        ensures { result ≡ bytes_of self }
-    {
-        match self {
+impl From<MemorySize> for usize {
+    ghost from_gives = { λ size bytes. bytes ≡ bytes_of size };
+
+    fn from(size: MemorySize) -> usize {
+        match size {
             MemorySize::Terminal => 256,
             MemorySize::Printer => 4096,
         }

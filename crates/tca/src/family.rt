@@ -1,6 +1,6 @@
 // The three families of status. The device posts each in one way: it fills in the record's places and
 // sets the toggle. So one text over `Family` collects all three.
-ghost use Rattle.std.specs.Prelude.{◌≡◌, ℕ, ◌<◌, ◌≤◌, List, length, Some, Option, ◌≢◌, slice_index, refl};
+ghost use Rattle.std.specs.Prelude.{◌≡◌, ℕ, ◌^◌, ◌<◌, ◌≤◌, List, length, Some, Option, ◌≢◌, slice_index, refl};
 ghost use Rattle.std.proofs.Common.{sym, ap, ◌∙◌, eq-eqb, rules};
 ghost use Rattle.tca.specs.Families.{synchronous_in, event_in, expedited_in};
 ghost use Rattle.tca.specs.Fields.{dpsstat, dpastat, exfak, synchronous_places, event_places, expedited_places, data_area};
@@ -12,8 +12,9 @@ use crate::status::{
     EVENT_PLACES, EXPEDITED_PLACES, Event, ExpeditedStatus, SYNCHRONOUS_PLACES, SynchronousStatus,
 };
 
-// A clause cannot cite a constant, so a ghost member says what it is, and a small function ties the two.
-pub trait Family {
+// The record has N bytes. A clause cannot cite a constant, so a ghost member says what it is, and a small
+// function ties the two.
+pub trait Family<const N: usize> {
     type Record: Copy;
 
     // where the toggle stands that says that a record is there
@@ -32,15 +33,17 @@ pub trait Family {
     fn toggle() -> u16
         ensures { result ≡ toggle };
 
-    fn places<'a>() -> &'a [u16]
-        ensures { result.now ≡ places };
+    fn places() -> [u16; N]
+        ensures { result ≡ places };
 
-    // the byte that belongs at the record's n-th place
-    fn byte(status: Self::Record, n: usize) -> u8
-        ensures { result ≡ slice_index (bytes status) n };
+    fn to_bytes(status: Self::Record) -> [u8; N]
+        ensures { result ≡ bytes status };
 
     fn from_slice(read: &[u8]) -> Option<Self::Record>
         ensures { result ≡ of read.now };
+
+    // as for any slice of places, there is memory for that many
+    ghost fits: { N < 2 ^ 62 };
 
     // a record has a byte for each place
     ghost long: { (r : Self.Record) → length (bytes r) ≡ length places };
@@ -59,25 +62,16 @@ pub trait Family {
 }
 
 // A family whose record a unit can read: as many bytes as there are places are a record, and these are six at most.
-pub trait Readable: Family {
+pub trait Readable<const N: usize>: Family<N> {
     ghost every: { (bs : List ℕ) → length bs ≡ length Self.Family.places → (r : Self.Record) × (Self.Family.of bs ≡ Some r) };
 
     ghost few: { length Self.Family.places ≤ 6 };
 }
 
-fn byte_at(bytes: &[u8], n: usize) -> u8
-    ensures { result ≡ slice_index bytes.now n }
-{
-    match bytes.get(n) {
-        Some(byte) => *byte,
-        None => 0,
-    }
-}
-
 // The status that answers a function request.
 pub struct Synchronous;
 
-impl Family for Synchronous {
+impl Family<4> for Synchronous {
     type Record = SynchronousStatus;
 
     const TOGGLE_PLACE: u16 = DPSSTAT.address;
@@ -89,6 +83,8 @@ impl Family for Synchronous {
     ghost bytes = { synchronous_bytes };
 
     ghost of = { synchronous_in };
+
+    ghost fits = { Prim.search rules };
 
     ghost long = { Prim.search rules };
 
@@ -106,26 +102,23 @@ impl Family for Synchronous {
         Self::TOGGLE_PLACE
     }
 
-    fn places<'a>() -> &'a [u16] {
-        &SYNCHRONOUS_PLACES
+    fn places() -> [u16; 4] {
+        SYNCHRONOUS_PLACES
     }
 
-    fn byte(status: SynchronousStatus, n: usize) -> u8 {
-        byte_at(&status.to_bytes(), n)
+    fn to_bytes(status: SynchronousStatus) -> [u8; 4] {
+        status.into()
     }
 
     fn from_slice(read: &[u8]) -> Option<SynchronousStatus> {
-        match <[u8; 4]>::try_from(read) {
-            Ok(bytes) => Some(SynchronousStatus::from_bytes(bytes)),
-            Err(_) => None,
-        }
+        <[u8; 4]>::try_from(read).ok().map(SynchronousStatus::from)
     }
 }
 
 // The event that the device reports by itself.
 pub struct Asynchronous;
 
-impl Family for Asynchronous {
+impl Family<6> for Asynchronous {
     type Record = Event;
 
     const TOGGLE_PLACE: u16 = DPASTAT.address;
@@ -137,6 +130,8 @@ impl Family for Asynchronous {
     ghost bytes = { event_bytes };
 
     ghost of = { event_in };
+
+    ghost fits = { Prim.search rules };
 
     ghost long = { Prim.search rules };
 
@@ -154,26 +149,23 @@ impl Family for Asynchronous {
         Self::TOGGLE_PLACE
     }
 
-    fn places<'a>() -> &'a [u16] {
-        &EVENT_PLACES
+    fn places() -> [u16; 6] {
+        EVENT_PLACES
     }
 
-    fn byte(status: Event, n: usize) -> u8 {
-        byte_at(&status.to_bytes(), n)
+    fn to_bytes(event: Event) -> [u8; 6] {
+        event.into()
     }
 
     fn from_slice(read: &[u8]) -> Option<Event> {
-        match <[u8; 6]>::try_from(read) {
-            Ok(bytes) => Some(Event::from_bytes(bytes)),
-            Err(_) => None,
-        }
+        <[u8; 6]>::try_from(read).ok().map(Event::from)
     }
 }
 
 // The status that is served before all others.
 pub struct Expedited;
 
-impl Family for Expedited {
+impl Family<6> for Expedited {
     type Record = ExpeditedStatus;
 
     const TOGGLE_PLACE: u16 = EXFAK.address;
@@ -185,6 +177,8 @@ impl Family for Expedited {
     ghost bytes = { expedited_bytes };
 
     ghost of = { expedited_in };
+
+    ghost fits = { Prim.search rules };
 
     ghost long = { Prim.search rules };
 
@@ -202,35 +196,32 @@ impl Family for Expedited {
         Self::TOGGLE_PLACE
     }
 
-    fn places<'a>() -> &'a [u16] {
-        &EXPEDITED_PLACES
+    fn places() -> [u16; 6] {
+        EXPEDITED_PLACES
     }
 
-    fn byte(status: ExpeditedStatus, n: usize) -> u8 {
-        byte_at(&status.to_bytes(), n)
+    fn to_bytes(status: ExpeditedStatus) -> [u8; 6] {
+        status.into()
     }
 
     fn from_slice(read: &[u8]) -> Option<ExpeditedStatus> {
-        match <[u8; 6]>::try_from(read) {
-            Ok(bytes) => Some(ExpeditedStatus::from_bytes(bytes)),
-            Err(_) => None,
-        }
+        <[u8; 6]>::try_from(read).ok().map(ExpeditedStatus::from)
     }
 }
 
-impl Readable for Synchronous {
+impl Readable<4> for Synchronous {
     ghost every = { λ bs e. (synchronous_of bs, rw (eq-eqb (length bs) 4 e) refl) };
 
     ghost few = { Prim.search rules };
 }
 
-impl Readable for Asynchronous {
+impl Readable<6> for Asynchronous {
     ghost every = { λ bs e. (event_of bs, rw (eq-eqb (length bs) 6 e) refl) };
 
     ghost few = { Prim.search rules };
 }
 
-impl Readable for Expedited {
+impl Readable<6> for Expedited {
     ghost every = { λ bs e. (expedited_of bs, rw (eq-eqb (length bs) 6 e) refl) };
 
     ghost few = { Prim.search rules };

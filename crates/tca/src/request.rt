@@ -9,7 +9,7 @@ use crate::field::{
 };
 use codes::function::FunctionCode;
 
-#[derive(Clone, Copy)]
+#[derive(Clone, Copy, PartialEq, Eq)]
 pub struct Request {
     // the function code
     pub function: u8,
@@ -62,10 +62,10 @@ pub fn terminal_places() -> [u16; 5]
     TERMINAL_PLACES
 }
 
-impl Request {
-    pub fn from_bytes(bytes: [u8; 8]) -> Request
-        ensures { result ≡ request_of bytes }
-    {
+impl From<[u8; 8]> for Request {
+    ghost from_gives = { λ bytes request. request ≡ request_of bytes };
+
+    fn from(bytes: [u8; 8]) -> Request {
         let [function, p1, p2, p3, p4, terminal, high, low] = bytes;
         let data = u16::from_be_bytes([high, low]);
         Request {
@@ -78,30 +78,36 @@ impl Request {
             data,
         }
     }
+}
 
-    pub fn to_bytes(self) -> [u8; 8]
-        ensures value { result ≡ request_bytes self }
-        ensures back { request_of result ≡ self }
+impl From<Request> for [u8; 8] {
+    ghost from_gives = { λ request bytes. bytes ≡ request_bytes request };
+
+    fn from(request: Request) -> [u8; 8]
+        ensures value { result ≡ request_bytes request }
+        ensures back { request_of result ≡ request }
     {
-        let [high, low] = self.data.to_be_bytes();
+        let [high, low] = request.data.to_be_bytes();
         [
-            self.function,
-            self.p1,
-            self.p2,
-            self.p3,
-            self.p4,
-            self.terminal,
+            request.function,
+            request.p1,
+            request.p2,
+            request.p3,
+            request.p4,
+            request.terminal,
             high,
             low,
         ]
     }
+}
 
+impl Request {
     // The status report that the control unit is ready.
     pub fn cu_ready() -> Request
         ensures { result ≡ cu_ready }
     {
         Request {
-            function: FunctionCode::Wcus.byte(),
+            function: FunctionCode::Wcus.into(),
             p1: UNIT_READY,
             p2: 0,
             p3: 0,

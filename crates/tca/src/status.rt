@@ -8,7 +8,7 @@ use crate::field::{
     EXFLT, EXFRQ,
 };
 
-#[derive(Clone, Copy)]
+#[derive(Clone, Copy, PartialEq, Eq)]
 pub struct SynchronousStatus {
     pub dssv: u8,
     pub dssp: u8,
@@ -19,10 +19,10 @@ pub struct SynchronousStatus {
 // Where each byte stands, in record order.
 pub const SYNCHRONOUS_PLACES: [u16; 4] = [DSSV.address, DSSP.address, DSSP2.address, DSSP3.address];
 
-impl SynchronousStatus {
-    pub fn from_bytes(bytes: [u8; 4]) -> SynchronousStatus
-        ensures { result ≡ synchronous_of bytes }
-    {
+impl From<[u8; 4]> for SynchronousStatus {
+    ghost from_gives = { λ bytes status. status ≡ synchronous_of bytes };
+
+    fn from(bytes: [u8; 4]) -> SynchronousStatus {
         let [dssv, dssp, dssp2, dssp3] = bytes;
         SynchronousStatus {
             dssv,
@@ -31,16 +31,20 @@ impl SynchronousStatus {
             dssp3,
         }
     }
+}
 
-    pub fn to_bytes(self) -> [u8; 4]
-        ensures value { result ≡ synchronous_bytes self }
-        ensures back { synchronous_of result ≡ self }
+impl From<SynchronousStatus> for [u8; 4] {
+    ghost from_gives = { λ status bytes. bytes ≡ synchronous_bytes status };
+
+    fn from(status: SynchronousStatus) -> [u8; 4]
+        ensures value { result ≡ synchronous_bytes status }
+        ensures back { synchronous_of result ≡ status }
     {
-        [self.dssv, self.dssp, self.dssp2, self.dssp3]
+        [status.dssv, status.dssp, status.dssp2, status.dssp3]
     }
 }
 
-#[derive(Clone, Copy)]
+#[derive(Clone, Copy, PartialEq, Eq)]
 pub struct Event {
     pub daev: u8,
     pub daep: u8,
@@ -60,10 +64,10 @@ pub const EVENT_PLACES: [u16; 6] = [
     DALTAD.address,
 ];
 
-impl Event {
-    pub fn from_bytes(bytes: [u8; 6]) -> Event
-        ensures { result ≡ event_of bytes }
-    {
+impl From<[u8; 6]> for Event {
+    ghost from_gives = { λ bytes event. event ≡ event_of bytes };
+
+    fn from(bytes: [u8; 6]) -> Event {
         let [daev, daep, daep2, daep3, daep4, daltad] = bytes;
         Event {
             daev,
@@ -74,23 +78,27 @@ impl Event {
             daltad,
         }
     }
+}
 
-    pub fn to_bytes(self) -> [u8; 6]
-        ensures value { result ≡ event_bytes self }
-        ensures back { event_of result ≡ self }
+impl From<Event> for [u8; 6] {
+    ghost from_gives = { λ event bytes. bytes ≡ event_bytes event };
+
+    fn from(event: Event) -> [u8; 6]
+        ensures value { result ≡ event_bytes event }
+        ensures back { event_of result ≡ event }
     {
         [
-            self.daev,
-            self.daep,
-            self.daep2,
-            self.daep3,
-            self.daep4,
-            self.daltad,
+            event.daev,
+            event.daep,
+            event.daep2,
+            event.daep3,
+            event.daep4,
+            event.daltad,
         ]
     }
 }
 
-#[derive(Clone, Copy)]
+#[derive(Clone, Copy, PartialEq, Eq)]
 pub struct ExpeditedStatus {
     pub exfrq: u8,
     pub exflt: u8,
@@ -110,10 +118,10 @@ pub const EXPEDITED_PLACES: [u16; 6] = [
     EXFD4.address,
 ];
 
-impl ExpeditedStatus {
-    pub fn from_bytes(bytes: [u8; 6]) -> ExpeditedStatus
-        ensures { result ≡ expedited_of bytes }
-    {
+impl From<[u8; 6]> for ExpeditedStatus {
+    ghost from_gives = { λ bytes status. status ≡ expedited_of bytes };
+
+    fn from(bytes: [u8; 6]) -> ExpeditedStatus {
         let [exfrq, exflt, exfd1, exfd2, exfd3, exfd4] = bytes;
         ExpeditedStatus {
             exfrq,
@@ -124,13 +132,22 @@ impl ExpeditedStatus {
             exfd4,
         }
     }
+}
 
-    pub fn to_bytes(self) -> [u8; 6]
-        ensures value { result ≡ expedited_bytes self }
-        ensures back { expedited_of result ≡ self }
+impl From<ExpeditedStatus> for [u8; 6] {
+    ghost from_gives = { λ status bytes. bytes ≡ expedited_bytes status };
+
+    fn from(status: ExpeditedStatus) -> [u8; 6]
+        ensures value { result ≡ expedited_bytes status }
+        ensures back { expedited_of result ≡ status }
     {
         [
-            self.exfrq, self.exflt, self.exfd1, self.exfd2, self.exfd3, self.exfd4,
+            status.exfrq,
+            status.exflt,
+            status.exfd1,
+            status.exfd2,
+            status.exfd3,
+            status.exfd4,
         ]
     }
 }

@@ -1,15 +1,19 @@
 -- What is looked for among the ports, and the table that remembers what was found.
-use Rattle.std.specs.Prelude.{ℕ, Bool, ◌&&◌, nat_lt}
+use Rattle.std.specs.Prelude.{◌≡◌, ℕ, Bool, List, Option}
+use Rattle.std.specs.Fn.{Shared}
+use denote.Ref.{Bor}
 use Rattle.ports.specs.declared.port.Port.{Port}
 use Rattle.ports.specs.declared.table.Table.{Table}
-use Rattle.ports.specs.Turn.{in_service, marked_expedited}
-use Rattle.turning.specs.declared.Wanted.{Wanted}
-use Rattle.turning.specs.declared.Wanted.TheVariants.{Expedited, After, Any}
+use Rattle.ports.specs.Turn.{lowest}
 
-abbrev pub wants : Wanted → ℕ → Port → Bool
-wants Expedited n k = in_service k && marked_expedited k.state
-wants (After last) n k = in_service k && nat_lt last n
-wants Any n k = in_service k
+module _ {F : Type 0} (g : Shared F (ℕ × (Bor Port × Unit {0})) Bool) (f : F) where
+  -- a closure tests a port, by its number and its record, as wants does
+  abbrev pub Tests : (ℕ → Port → Bool) → Type 0
+  Tests wants = (n : ℕ) (k : Bor Port) (b : Bool) → g.post f (n, (k, tt)) b → b ≡ wants n k.now
+
+  -- the lowest port that passes such a test was found
+  pub record FindsLowest (ks : List Port) (found : Option ℕ) : Type 0 where
+    pub by : (wants : ℕ → Port → Bool) → Tests wants → found ≡ lowest wants 0 ks
 
 abbrev pub with_last : ℕ → Table → Table
 with_last n t = record { ports = t.ports; last = n }

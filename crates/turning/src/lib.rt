@@ -1,66 +1,72 @@
 // Which port is served next.
 #![tactic(auto)]
 
-ghost use Rattle.std.specs.Prelude.{◌≡◌};
-ghost use Rattle.ports.specs.Turn.{turn as whose_turn, named_last, lowest as lowest_of, marked_expedited};
-ghost use Rattle.turning.specs.Wanted.{wants, with_last};
+ghost use Rattle.std.specs.Prelude.{◌≡◌, ◌&&◌, nat_lt};
+ghost use Rattle.ports.specs.Turn.{turn as whose_turn, named_last, in_service, marked_expedited, lowest as lowest_of};
+ghost use Rattle.turning.specs.Wanted.{FindsLowest, with_last};
 
-use ports::port::{Port, PortState};
+use ports::port::Port;
 use ports::table::Table;
 use terminals::none_configured;
 
-// What is looked for among the ports in service.
-#[derive(Clone, Copy)]
-pub enum Wanted {
-    Expedited,
-    After(u8),
-    Any,
+fn is_in_service(port: &Port) -> bool
+    ensures { result ≡ in_service port.now }
+{
+    !none_configured(port.terminals)
 }
 
 fn is_marked_expedited(port: &Port) -> bool
-    ensures { result ≡ marked_expedited port.now.state }
+    ensures { result ≡ marked_expedited port.now.connection }
 {
-    match port.state {
-        PortState::Connected(connection) => connection.marks.expedited,
-        PortState::Disconnected => false,
-    }
+    port.connection
+        .is_some_and(|connection| connection.marks.expedited)
 }
 
-fn is_wanted(wanted: Wanted, number: u8, port: &Port) -> bool
-    ensures { result ≡ wants wanted number port.now }
+// The lowest port that a test of its number and its record wants.
+fn lowest<F: Fn(u8, &Port) -> bool>(table: &Table, is_wanted: F) -> Option<u8>
+    requires { F.IsAlwaysCallable is_wanted }
+    ensures { FindsLowest F.Fn is_wanted table.now.ports result }
 {
-    let in_service = !none_configured(port.terminals);
-    match wanted {
-        Wanted::Expedited => in_service && is_marked_expedited(port),
-        Wanted::After(last) => in_service && last < number,
-        Wanted::Any => in_service,
-    }
+    (0..32u8)
+        .zip(table.ports.iter())
+        .find(|(number, port)| is_wanted(*number, port))
+        .map(|(number, _)| number)
 }
 
-fn lowest(table: &Table, wanted: Wanted) -> Option<u8>
-    ensures { result ≡ lowest_of (wants wanted) 0 table.now.ports }
+#[tactic(auto, using(crate::proofs::Searches::found_lowest))]
+fn lowest_expedited(table: &Table) -> Option<u8>
+    ensures { result ≡ lowest_of (λ n k. in_service k && marked_expedited k.connection) 0 table.now.ports }
 {
-    let ports: &[Port] = &table.ports;
-    for (n, port) in ports.iter().enumerate() {
-        let number = n as u8;
-        if is_wanted(wanted, number, port) {
-            return Some(number);
-        }
-    }
-    None
+    lowest(
+        table,
+        |_, port| is_in_service(port) && is_marked_expedited(port),
+    )
+}
+
+#[tactic(auto, using(crate::proofs::Searches::found_lowest))]
+fn lowest_after_last(table: &Table) -> Option<u8>
+    ensures { result ≡ lowest_of (λ n k. in_service k && nat_lt table.now.last n) 0 table.now.ports }
+{
+    lowest(
+        table,
+        |number, port| is_in_service(port) && table.last < number,
+    )
+}
+
+#[tactic(auto, using(crate::proofs::Searches::found_lowest))]
+fn lowest_in_service(table: &Table) -> Option<u8>
+    ensures { result ≡ lowest_of (λ n k. in_service k) 0 table.now.ports }
+{
+    lowest(table, |_, port| is_in_service(port))
 }
 
 // A port that is marked expedited, the lowest first; else the next after the one named last, going round.
 fn next(table: &Table) -> Option<u8>
     ensures { result ≡ whose_turn table.now.ports table.now.last }
 {
-    if let Some(number) = lowest(table, Wanted::Expedited) {
-        return Some(number);
-    }
-    if let Some(number) = lowest(table, Wanted::After(table.last)) {
-        return Some(number);
-    }
-    lowest(table, Wanted::Any)
+    lowest_expedited(table)
+        .or_else(|| lowest_after_last(table))
+        .or_else(|| lowest_in_service(table))
 }
 
 pub fn turn(table: &mut Table) -> Option<u8>
@@ -68,8 +74,6 @@ pub fn turn(table: &mut Table) -> Option<u8>
     ensures after { table.new ≡ with_last (named_last result table.old.last) table.old }
 {
     let named = next(table);
-    if let Some(number) = named {
-        table.last = number;
-    }
+    table.last = named.unwrap_or(table.last);
     named
 }

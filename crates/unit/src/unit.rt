@@ -1,20 +1,20 @@
 // The unit and its calls.
-ghost use Rattle.std.specs.Prelude.{◌≡◌, length};
+ghost use Rattle.std.specs.Prelude.{◌≡◌, ◌<◌, ◌≤◌, length, MatchResult};
 ghost use Rattle.line.specs.State.{State};
 ghost use Rattle.ports.specs.Asked.{configure as to_configure, attach as to_attach, poll as to_poll, request as to_request, collect as to_collect, take as to_take, expedite as to_expedite, fetch as to_fetch, drop as to_drop};
-ghost use Rattle.ports.specs.Frame.{Called, DoneAt};
+ghost use Rattle.ports.specs.Frame.{Called};
 ghost use Rattle.ports.specs.Turn.{turn as whose_turn, named_last};
-ghost use Rattle.unit.specs.Units.{new_unit, beside, with_last, record_at};
+ghost use Rattle.unit.specs.Units.{new_unit, beside, with_last, record_at, Serves};
 
 use codes::attachment::Attachment;
 use codes::number::Refusal;
 use line::Line;
-use ports::answers::{
-    Attached, Collected, Configured, Dropped, Expedited, Fetched, Polled, Requested, Taken,
-};
-use ports::port::Port;
+use ports::answers::{AttachFailure, Failure, Handed};
+use ports::disconnection::Disconnection;
+use ports::port::{Marks, Port};
 use ports::table::Table;
 use tca::request::Request;
+use tca::status::{ExpeditedStatus, SynchronousStatus};
 
 // Made for one attachment to the host.
 #[derive(Drop)]
@@ -33,7 +33,8 @@ impl Unit {
         }
     }
 
-    // How many ports there are, which an index has to stay below.
+    // How many ports there are, which an index has to stay below. Asked of a slice, since a proof learns the list's
+    // length only there.
     pub fn size(&self) -> usize
         ensures value { result ≡ 32 }
         ensures ports { result ≡ length self.now.table.ports }
@@ -42,25 +43,31 @@ impl Unit {
         ports.len()
     }
 
-    pub fn configure(&mut self, port: u8, terminals: [u8; 5]) -> Configured
+    // Where a port's record stands: at its number, where there is such a port.
+    fn index(&self, port: u8) -> Result<usize, Refusal>
+        ensures { let ports = length self.now.table.ports in
+            MatchResult result (λ i. (i ≡ port) × (i < ports)) (λ n. (n ≡ Refusal.PortTooHigh) × (ports ≤ port)) }
+    {
+        let index = usize::from(port);
+        if index < self.size() {
+            Ok(index)
+        } else {
+            Err(Refusal::PortTooHigh)
+        }
+    }
+
+    pub fn configure(&mut self, port: u8, terminals: [u8; 5]) -> Result<(), Refusal>
         ensures outcome { (t : State) → Called self.old.attachment port (to_configure terminals) self.old.table.ports t result self.new.table.ports t }
         ensures kept { beside self.new ≡ beside self.old }
     {
-        let index = usize::from(port);
-        if index >= self.size() {
-            return Configured::Refused(Refusal::PortTooHigh);
-        }
+        let index = self.index(port)?;
         calls::connecting::configure(&mut self.table.ports[index], terminals)
     }
 
-    pub fn attach<L: Line>(&mut self, port: u8, line: &mut L) -> Attached
-        ensures outcome { DoneAt L.Line.step L.Line.state self.old.attachment port to_attach self.old.table.ports line.old result self.new.table.ports line.new }
-        ensures kept { beside self.new ≡ beside self.old }
+    pub fn attach<L: Line>(&mut self, port: u8, line: &mut L) -> Result<(), AttachFailure>
+        ensures { Serves L.Line.step L.Line.state port to_attach self.old line.old result self.new line.new }
     {
-        let index = usize::from(port);
-        if index >= self.size() {
-            return Attached::Refused(Refusal::PortTooHigh);
-        }
+        let index = self.index(port)?;
         calls::connecting::attach(&mut self.table.ports[index], line)
     }
 
@@ -76,21 +83,13 @@ impl Unit {
     pub fn record(&self, port: u8) -> Option<Port>
         ensures { result ≡ record_at self.now.table.ports port }
     {
-        let ports: &[Port] = &self.table.ports;
-        match ports.get(usize::from(port)) {
-            Some(record) => Some(*record),
-            None => None,
-        }
+        self.table.ports.get(usize::from(port)).copied()
     }
 
-    pub fn poll<L: Line>(&mut self, port: u8, line: &mut L) -> Polled
-        ensures outcome { DoneAt L.Line.step L.Line.state self.old.attachment port to_poll self.old.table.ports line.old result self.new.table.ports line.new }
-        ensures kept { beside self.new ≡ beside self.old }
+    pub fn poll<L: Line>(&mut self, port: u8, line: &mut L) -> Result<Marks, Failure>
+        ensures { Serves L.Line.step L.Line.state port to_poll self.old line.old result self.new line.new }
     {
-        let index = usize::from(port);
-        if index >= self.size() {
-            return Polled::Refused(Refusal::PortTooHigh);
-        }
+        let index = self.index(port)?;
         calls::polling::poll(&mut self.table.ports[index], line)
     }
 
@@ -100,47 +99,36 @@ impl Unit {
         line: &mut L,
         request: Request,
         data: &[u8],
-    ) -> Requested
-        ensures outcome { DoneAt L.Line.step L.Line.state self.old.attachment port (to_request request «data».now) self.old.table.ports line.old result self.new.table.ports line.new }
-        ensures kept { beside self.new ≡ beside self.old }
+    ) -> Result<(), Failure>
+        ensures { Serves L.Line.step L.Line.state port (to_request request «data».now) self.old line.old result self.new line.new }
     {
-        let index = usize::from(port);
-        if index >= self.size() {
-            return Requested::Refused(Refusal::PortTooHigh);
-        }
+        let index = self.index(port)?;
         requesting::request(&mut self.table.ports[index], line, request, data)
     }
 
-    pub fn collect<L: Line>(&mut self, port: u8, line: &mut L) -> Collected
-        ensures outcome { DoneAt L.Line.step L.Line.state self.old.attachment port to_collect self.old.table.ports line.old result self.new.table.ports line.new }
-        ensures kept { beside self.new ≡ beside self.old }
+    pub fn collect<L: Line>(&mut self, port: u8, line: &mut L) -> Result<SynchronousStatus, Failure>
+        ensures { Serves L.Line.step L.Line.state port to_collect self.old line.old result self.new line.new }
     {
-        let index = usize::from(port);
-        if index >= self.size() {
-            return Collected::Refused(Refusal::PortTooHigh);
-        }
+        let index = self.index(port)?;
         calls::statuses::collect(&mut self.table.ports[index], line)
     }
 
-    pub fn take<L: Line>(&mut self, port: u8, line: &mut L) -> Taken
-        ensures outcome { DoneAt L.Line.step L.Line.state self.old.attachment port to_take self.old.table.ports line.old result self.new.table.ports line.new }
-        ensures kept { beside self.new ≡ beside self.old }
+    pub fn take<L: Line>(&mut self, port: u8, line: &mut L) -> Result<Handed, Failure>
+        ensures { Serves L.Line.step L.Line.state port to_take self.old line.old result self.new line.new }
     {
-        let index = usize::from(port);
-        if index >= self.size() {
-            return Taken::Refused(Refusal::PortTooHigh);
-        }
+        let index = self.index(port)?;
         calls::statuses::take(&mut self.table.ports[index], line, self.attachment)
     }
 
-    pub fn expedite<L: Line>(&mut self, port: u8, line: &mut L, response: [u8; 4]) -> Expedited
-        ensures outcome { DoneAt L.Line.step L.Line.state self.old.attachment port (to_expedite response) self.old.table.ports line.old result self.new.table.ports line.new }
-        ensures kept { beside self.new ≡ beside self.old }
+    pub fn expedite<L: Line>(
+        &mut self,
+        port: u8,
+        line: &mut L,
+        response: [u8; 4],
+    ) -> Result<ExpeditedStatus, Failure>
+        ensures { Serves L.Line.step L.Line.state port (to_expedite response) self.old line.old result self.new line.new }
     {
-        let index = usize::from(port);
-        if index >= self.size() {
-            return Expedited::Refused(Refusal::PortTooHigh);
-        }
+        let index = self.index(port)?;
         calls::statuses::expedite(&mut self.table.ports[index], line, response)
     }
 
@@ -152,25 +140,17 @@ impl Unit {
         address: u16,
         count: usize,
         buffer: &mut [u8],
-    ) -> Fetched
-        ensures outcome { DoneAt L.Line.step L.Line.state self.old.attachment port (to_fetch address count buffer.old) self.old.table.ports line.old (result, buffer.new) self.new.table.ports line.new }
-        ensures kept { beside self.new ≡ beside self.old }
+    ) -> Result<(), Failure>
+        ensures { Serves L.Line.step L.Line.state port (to_fetch address count buffer.old) self.old line.old (result, buffer.new) self.new line.new }
     {
-        let index = usize::from(port);
-        if index >= self.size() {
-            return Fetched::Refused(Refusal::PortTooHigh);
-        }
+        let index = self.index(port)?;
         fetching::fetch(&mut self.table.ports[index], line, address, count, buffer)
     }
 
-    pub fn drop<L: Line>(&mut self, port: u8, line: &mut L) -> Dropped
-        ensures outcome { DoneAt L.Line.step L.Line.state self.old.attachment port to_drop self.old.table.ports line.old result self.new.table.ports line.new }
-        ensures kept { beside self.new ≡ beside self.old }
+    pub fn drop<L: Line>(&mut self, port: u8, line: &mut L) -> Result<Disconnection, Refusal>
+        ensures { Serves L.Line.step L.Line.state port to_drop self.old line.old result self.new line.new }
     {
-        let index = usize::from(port);
-        if index >= self.size() {
-            return Dropped::Refused(Refusal::PortTooHigh);
-        }
+        let index = self.index(port)?;
         calls::connecting::drop(&mut self.table.ports[index], line)
     }
 }

@@ -1,4 +1,5 @@
-ghost use Rattle.std.specs.Prelude.{◌≡◌, ◌+◌, min, List, if◌then◌else◌, Option};
+ghost use Rattle.std.specs.Prelude.{◌≡◌, List, Option};
+ghost use Rattle.std.specs.Fn.{FnOnceReturnsAtMut};
 ghost use Rattle.std.proofs.Common.{ap};
 ghost use Rattle.line.specs.State.{State};
 ghost use Rattle.line.specs.declared.command.Command.{Command};
@@ -12,23 +13,10 @@ use crate::mark::Mark;
 use line::Line;
 use line::command::PollAnswer;
 use line::determined::Determined;
+use line::row::row_after;
 use line::tellable::Tellable;
-use line::telling::{Telling, Tells};
+use line::telling::{Registers, Telling, Tells};
 use tca::status::{Event, SynchronousStatus};
-
-// One sending under the mark that is next: the one text for all commands. What is lost is `none`.
-macro_rules! lose {
-    ($line:ident, $sending:expr, $none:expr) => {
-        match $line.turn() {
-            Mark::Passes => $sending,
-            Mark::Unheard => $none,
-            Mark::Unanswered => {
-                let _ = $sending;
-                $none
-            }
-        }
-    };
-}
 
 impl<L> Losing<L> {
     // Over a line, with the first mark next and a row of 0.
@@ -42,9 +30,7 @@ impl<L> Losing<L> {
             row: 0,
         }
     }
-}
 
-impl<L> Losing<L> {
     // The next mark, with the rotation one further.
     fn turn(&mut self) -> Mark
         ensures value { result ≡ mark_at self.old.marks self.old.next }
@@ -55,21 +41,37 @@ impl<L> Losing<L> {
         mark
     }
 
-    fn count(&mut self, answered: bool)
-        ensures { (self.new.below ≡ self.old.below) × (self.new.marks ≡ self.old.marks) × (self.new.next ≡ self.old.next) × (self.new.row ≡ (if answered then 0 else min 255 (self.old.row + 1))) }
+    // One sending under the mark that is next.
+    fn pass<A: Copy, F: FnOnce(&mut L) -> Option<A>>(&mut self, send: F) -> Option<A>
+        requires { F.IsAlwaysCallable send }
+        ensures below { Lost (FnOnceReturnsAtMut F.FnOnce send) (mark_at self.old.marks self.old.next) self.old.below result self.new.below }
+        ensures rest { (self.new.marks ≡ self.old.marks) × (self.new.next ≡ turned self.old.next) × (self.new.row ≡ self.old.row) }
     {
-        self.row = if answered {
-            0
-        } else {
-            self.row.saturating_add(1)
-        };
+        match self.turn() {
+            Mark::Passes => send(&mut self.below),
+            Mark::Unheard => None,
+            Mark::Unanswered => {
+                send(&mut self.below);
+                None
+            }
+        }
+    }
+
+    // The same, counted in the row: the one text for all commands.
+    fn lose<A: Copy, F: FnOnce(&mut L) -> Option<A>>(&mut self, send: F) -> Option<A>
+        requires { F.IsAlwaysCallable send }
+        ensures { Loses (FnOnceReturnsAtMut F.FnOnce send) self.old.marks self.old.next self.old.row self.old.below result self.new.below self.new.marks self.new.next self.new.row }
+    {
+        let answer = self.pass(send);
+        self.row = row_after(self.row, answer.is_some());
+        answer
     }
 }
 
 impl<L: Line> Line for Losing<L> {
     ghost state = { λ s. told_over (L.Line.state s.below) s.row };
 
-    ghost step = { λ s c r t. Loses L.Line.step s.marks s.next s.row s.below c r t.below t.marks t.next t.row };
+    ghost step = { λ s c r t. Loses (λ s r t. L.Line.step s c r t) s.marks s.next s.row s.below r t.below t.marks t.next t.row };
 
     ghost keeps = { λ s t c r w. keeps_over L.Line.step L.Line.state L.Line.keeps _ _ _ s.below c r t.below _ _ _ w };
 
@@ -80,45 +82,34 @@ impl<L: Line> Line for Losing<L> {
     }
 
     fn poll(&mut self) -> Option<PollAnswer> {
-        let answer = lose!(self, self.below.poll(), None);
-        self.count(answer.is_some());
-        answer
+        self.lose(|below| below.poll())
     }
 
     fn read(&mut self, address: u16) -> Option<u8> {
-        let answer = lose!(self, self.below.read(address), None);
-        self.count(answer.is_some());
-        answer
+        self.lose(|below| below.read(address))
     }
 
     fn write(&mut self, address: u16, value: u8) -> bool {
-        let answer = lose!(self, self.below.write(address, value), false);
-        self.count(answer);
-        answer
+        self.lose(|below| below.write(address, value).then_some(()))
+            .is_some()
     }
 
     fn start(&mut self) -> bool {
-        let answer = lose!(self, self.below.start(), false);
-        self.count(answer);
-        answer
+        self.lose(|below| below.start().then_some(())).is_some()
     }
 
     fn acknowledge(&mut self) -> bool {
-        let answer = lose!(self, self.below.acknowledge(), false);
-        self.count(answer);
-        answer
+        self.lose(|below| below.acknowledge().then_some(()))
+            .is_some()
     }
 
     fn terminal_id(&mut self) -> bool {
-        let answer = lose!(self, self.below.terminal_id(), false);
-        self.count(answer);
-        answer
+        self.lose(|below| below.terminal_id().then_some(()))
+            .is_some()
     }
 
     fn reset(&mut self) -> bool {
-        let answer = lose!(self, self.below.reset(), false);
-        self.count(answer);
-        answer
+        self.lose(|below| below.reset().then_some(())).is_some()
     }
 }
 
@@ -139,10 +130,11 @@ impl<L: Tellable> Tellable for Losing<L> {
 impl<L: Tells> Tells for Losing<L> {
     fn telling(&self) -> Telling<'_> {
         let below = self.below.telling();
-        Telling {
+        let registers = Registers {
             row: self.row,
-            ..below
-        }
+            ..below.registers
+        };
+        Telling { registers, ..below }
     }
 }
 

@@ -13,4 +13,4 @@ pub loop-preserved : goal.loop-preserved
 loop-preserved g c = more c.loop.invariant c.in_default.ensures
 
 pub returns : goal.returns
-returns g c = silent c.loop.counter (omega arith) c.loop.invariant c.of.ensures
+returns g c = silent c.loop.counter (omega arith) c.loop.invariant c.from.ensures

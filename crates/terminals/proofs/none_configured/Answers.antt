@@ -1,17 +1,11 @@
-use Rattle.std.proofs.Common.{arith}
-use Rattle.std.proofs.lemmas.Bool.Decides.{nat_tests}
-use Rattle.std.proofs.lemmas.List.{drop_more, drop_all}
+use Rattle.std.proofs.Common.{◌∙◌, rules, tests, eqb}
+use Rattle.std.proofs.lemmas.Iterator.{YieldsList-from_slice}
+use Rattle.std.proofs.lemmas.Iterator.Search.{all_from_yields_List}
+use Rattle.ports.specs.Port.{no_terminal}
+use Rattle.terminals.proofs.Searches.{all_none}
 use Rattle.terminals.proofs.none_configured.Goals as goal
 
-pub returns-then-address : goal.returns-then-address
-returns-then-address c =
-    let e = drop_more c.args.terminals c.loop-address.address-index 0 (omega arith) in
-    rw (c.loop-address.invariant, e) (grind (arith, nat_tests))
-
-pub loop-address-preserved : goal.loop-address-preserved
-loop-address-preserved c =
-    let e = drop_more c.args.terminals c.loop-address.address-index 0 (omega arith) in
-    rw (c.loop-address.invariant, e) (grind (arith, nat_tests))
-
 pub returns : goal.returns
-returns c = rw (c.loop-address.invariant, drop_all c.loop-address.address-index c.args.terminals (omega arith))
+returns c =
+    all_from_yields_List (λ t. eqb t no_terminal) _ _ _ c.all.ensures.ran (YieldsList-from_slice c.args.terminals cc) (λ x b q k. search (rules, tests))
+    ∙ all_none c.args.terminals

@@ -1,9 +1,12 @@
-use Rattle.std.proofs.Common.{arith}
-use Rattle.bringup.proofs.Rows.{writes_more, writes_all}
+use Rattle.std.proofs.Common.{rules}
+use Rattle.std.proofs.lemmas.Result.{on_ok_weaker}
+use Rattle.std.proofs.lemmas.Iterator.{YieldsList-from_slice, YieldsList-from_zip, YieldsList-from_map}
+use Rattle.std.proofs.lemmas.Iterator.Adapters.{items_from_extend}
+use Rattle.line.specs.declared.command.Command.TheVariants.{Write}
 use Rattle.bringup.proofs.opening.write_row.Goals as goal
 
-pub loop-n-preserved : goal.loop-n-preserved
-loop-n-preserved c = writes_more c.args.places.now c.args.bytes.now _ _ _ c.loop-n.n c.loop-n-test.true (omega arith) c.in_ok-push.ensures.items c.loop-n.invariant
-
 pub returns : goal.returns
-returns c = writes_all c.args.places.now c.args.bytes.now _ _ c.loop-n.n (omega arith) c.loop-n.invariant
+returns c =
+    on_ok_weaker c.extend.result (λ h. h.0)
+    (items_from_extend c.extend.result c.extend.ensures.ran
+    (YieldsList-from_map _ (λ p. Write p.0 p.1) (YieldsList-from_zip (YieldsList-from_slice c.args.places.now (cc)) (YieldsList-from_slice c.args.bytes.now (cc))) c.map.ensures.closure (λ x r q k. search rules)))

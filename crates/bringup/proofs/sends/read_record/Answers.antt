@@ -11,7 +11,7 @@ returns-in_err-reply g c = broken_off _ c.from_residual.result c.from_residual.e
 pub returns-in_default : goal.returns-in_default
 returns-in_default g c =
     went_more c.loop-place.invariant c.in_ok-reply.ensures
-    (read_stops c.places-place-items.result.now g.F.Family.places _ g.F.Family.of c.loop-place.place-index _ c.places-place-items.ensures c.loop-place-test.true (sym c.to_byte.ensures ∙ c.in_default.is))
+    (read_stops c.places.result g.F.Family.places _ g.F.Family.of c.loop-place.place-index _ c.places.ensures (omega arith) (sym c.to_byte.ensures ∙ c.in_default.is))
 
 pub returns-in_err-push : goal.returns-in_err-push
 returns-in_err-push g c =
@@ -20,9 +20,9 @@ returns-in_err-push g c =
 pub loop-place-preserved : goal.loop-place-preserved
 loop-place-preserved g c =
     went_more c.loop-place.invariant c.in_ok-reply.ensures
-    (read_more c.places-place-items.result.now g.F.Family.places _ _ c.loop-place.place-index c.in-Some.byte _ c.places-place-items.ensures c.loop-place-test.true (sym c.to_byte.ensures ∙ c.in-Some.is) c.in_ok-push.ensures.items)
+    (read_more c.places.result g.F.Family.places _ _ c.loop-place.place-index c.in-Some.byte _ c.places.ensures (omega arith) (sym c.to_byte.ensures ∙ c.in-Some.is) c.in_ok-push.ensures.items)
 
 pub returns : goal.returns
 returns g c =
-    let same = ap length c.places-place-items.ensures in
+    let same = ap length c.places.ensures in
     went_so c.loop-place.invariant (read_all g.F.Family.places _ g.F.Family.of c.loop-place.place-index _ (omega arith) (rw c.deref.ensures.value at c.from_slice.ensures))

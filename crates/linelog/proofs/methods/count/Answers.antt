@@ -1,9 +1,10 @@
-use Rattle.std.proofs.lemmas.List.{take_all}
-use Rattle.linelog.proofs.Spelled.{counted_more}
+use Rattle.std.proofs.Common.{◌≡◌, ◌+◌, ◌-◌, ◌^◌, min, rules, fold, arith}
+use Rattle.std.proofs.iter.runs.Made.{chains}
+use Rattle.linelog.proofs.Spelled.{counted}
 use Rattle.linelog.proofs.methods.count.Goals as goal
 
-pub loop-run-preserved : goal.loop-run-preserved
-loop-run-preserved c = counted_more c.args.runs.now c.loop-run.run-index _ _ _ _ c.loop-run-test.true c.loop-run.invariant c.from.ensures c.saturating_add-sent.ensures
-
 pub returns : goal.returns
-returns c = let all = take_all c.loop-run.run-index c.args.runs.now c.loop-run-test.false in rw all at c.loop-run.invariant
+returns c =
+    let e : c.fold.result ≡ fold (λ sent x. min (sent + x.times) (2 ^ 64 - 1)) 0 c.args.runs.now = search (rules, chains) in
+    let sum = counted 0 c.args.runs.now (omega arith) in
+    omega arith
