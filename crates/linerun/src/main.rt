@@ -7,12 +7,19 @@ mod parse;
 mod session;
 
 use answer::{Failure, write_refusal};
-use codes::number::Refusal;
 use session::Session;
 use std::alloc::AllocError;
-use std::io::{Read, Write};
+use std::io;
+use std::io::{Read, Stdout, Write};
 
 const CHUNK: usize = 65536;
+
+// No answer is longer.
+const LONGEST_ANSWER: usize = 128;
+
+// Answers are gathered until another one may find no room in as many bytes as a chunk has, and only then written: so
+// there are few writes, and memory does not grow with the answers.
+const FULL: usize = CHUNK - LONGEST_ANSWER;
 
 // Longer than any line that is well-formed. What stands behind it is not held.
 const LONGEST: usize = 97;
@@ -30,9 +37,35 @@ fn answer_line(
 ) -> Result<(), AllocError> {
     match session.answer(text, answers) {
         Ok(()) => Ok(()),
-        Err(Failure::Refused(refusal)) => write_refusal(refusal, answers),
+        Err(Failure::Refused(_)) => write_refusal(answers),
         Err(Failure::OutOfMemory(error)) => Err(error),
     }
+}
+
+// Answers the lines that end in a chunk, and holds the part of a line that it ends with.
+fn take(
+    chunk: &[u8],
+    held: &mut Vec<u8>,
+    session: &mut Session,
+    answers: &mut Vec<u8>,
+    output: &mut Stdout,
+) -> io::Result<()> {
+    for piece in chunk.split_inclusive(|byte| *byte == b'\n') {
+        match piece {
+            [line @ .., b'\n'] if held.is_empty() => answer_line(session, line, answers)?,
+            [line @ .., b'\n'] => {
+                hold(held, line)?;
+                answer_line(session, held, answers)?;
+                held.clear();
+            }
+            part => hold(held, part)?,
+        }
+        if answers.len() > FULL {
+            output.write_all(answers)?;
+            answers.clear();
+        }
+    }
+    Ok(())
 }
 
 fn run(rt: &HostRuntime) -> anyhow::Result<()> {
@@ -41,7 +74,7 @@ fn run(rt: &HostRuntime) -> anyhow::Result<()> {
     let mut output = rt.stdout();
     let mut chunk = vec![in heap; 0u8; CHUNK]?;
     let mut held = Vec::new(heap);
-    let mut answers = Vec::new(heap);
+    let mut answers = Vec::with_capacity(heap, CHUNK).map_err(io::Error::from)?;
     let mut session = Session::new(heap);
     // A loop over reads needs a bound here, since nothing says that the input ends.
     for _ in 0..u64::MAX {
@@ -49,26 +82,18 @@ fn run(rt: &HostRuntime) -> anyhow::Result<()> {
         if got == 0 {
             break;
         }
-        for piece in chunk[..got].split_inclusive(|byte| *byte == b'\n') {
-            match piece {
-                [line @ .., b'\n'] if held.is_empty() => {
-                    answer_line(&mut session, line, &mut answers)?;
-                }
-                [line @ .., b'\n'] => {
-                    hold(&mut held, line)?;
-                    answer_line(&mut session, &held, &mut answers)?;
-                    held.clear();
-                }
-                part => hold(&mut held, part)?,
-            }
-        }
-        output.write_all(&answers)?;
-        answers.clear();
+        take(
+            &chunk[..got],
+            &mut held,
+            &mut session,
+            &mut answers,
+            &mut output,
+        )?;
     }
     if !held.is_empty() {
-        write_refusal(Refusal::Malformed, &mut answers)?;
-        output.write_all(&answers)?;
+        write_refusal(&mut answers)?;
     }
+    output.write_all(&answers)?;
     Ok(())
 }
 

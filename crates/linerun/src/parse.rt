@@ -4,7 +4,6 @@ use hexadecimal::decode_array;
 use line::command::Command;
 use line::telling::Registers;
 use losing::mark::Mark;
-use std::str::{FromStr, Split, from_utf8};
 use tca::status::{ExpeditedStatus, SynchronousStatus};
 
 const NO_DIGIT: u8 = 0x80;
@@ -86,8 +85,12 @@ fn mark(letter: u8) -> Result<Mark, Refusal> {
 }
 
 pub fn marks(text: &[u8]) -> Result<[Mark; 64], Refusal> {
-    let letters = <[u8; 64]>::try_from(text).map_err(|_| Refusal::Malformed)?;
-    letters.try_map(mark)
+    let letters = text.as_array::<64>().ok_or(Refusal::Malformed)?;
+    let mut marks = [Mark::Passes; 64];
+    for (place, letter) in marks.iter_mut().zip(letters) {
+        *place = mark(*letter)?;
+    }
+    Ok(marks)
 }
 
 // The state that a line begins in, but for the bytes that are noted for its memory.
@@ -106,60 +109,85 @@ pub enum Choice {
     State(Given),
 }
 
-fn field<'a>(fields: &mut Split<'a, char>) -> Result<&'a str, Refusal> {
-    fields.next().ok_or(Refusal::Malformed)
-}
-
-fn flag(text: &str) -> Result<bool, Refusal> {
+fn flag(text: &[u8]) -> Result<bool, Refusal> {
     match text {
-        "0" => Ok(false),
-        "1" => Ok(true),
+        b"0" => Ok(false),
+        b"1" => Ok(true),
         _ => Err(Refusal::Malformed),
     }
 }
 
-// A decimal number has no sign and no leading zeros.
-fn number<T: FromStr>(text: &str) -> Result<T, Refusal>
+// A decimal number of at most ten digits, without leading zeros.
+fn number<T: TryFrom<u64>>(text: &[u8]) -> Result<T, Refusal>
 where
-    T::Err: Drop,
+    T::Error: Drop,
 {
-    match text.as_bytes() {
-        [b'0'] | [b'1'..=b'9', ..] => text.parse().map_err(|_| Refusal::Malformed),
-        _ => Err(Refusal::Malformed),
+    if text.len() > 10 || !matches!(text, [b'0'] | [b'1'..=b'9', ..]) {
+        return Err(Refusal::Malformed);
     }
+    let mut number: u64 = 0;
+    for digit in text {
+        if !digit.is_ascii_digit() {
+            return Err(Refusal::Malformed);
+        }
+        number = number
+            .wrapping_mul(10)
+            .wrapping_add(u64::from(*digit & 0x0f));
+    }
+    T::try_from(number).map_err(|_| Refusal::Malformed)
 }
 
-fn state(fields: &mut Split<'_, char>) -> Result<Given, Refusal> {
+fn state(fields: &[&[u8]; 10]) -> Result<Given, Refusal> {
+    let [
+        size,
+        waiting,
+        working,
+        seen,
+        last,
+        taken,
+        events,
+        expedited,
+        row,
+        fill,
+    ] = *fields;
     Ok(Given {
-        size: number(field(fields)?)?,
+        size: number(size)?,
         registers: Registers {
-            waiting: flag(field(fields)?)?,
-            working: flag(field(fields)?)?,
-            seen: byte(field(fields)?.as_bytes())?,
-            last: decode_array(field(fields)?.as_bytes())?,
-            taken: number(field(fields)?)?,
-            events: number(field(fields)?)?,
-            expedited: number(field(fields)?)?,
-            row: number(field(fields)?)?,
+            waiting: flag(waiting)?,
+            working: flag(working)?,
+            seen: byte(seen)?,
+            last: decode_array(last)?,
+            taken: number(taken)?,
+            events: number(events)?,
+            expedited: number(expedited)?,
+            row: number(row)?,
         },
-        fill: byte(field(fields)?.as_bytes())?,
+        fill: byte(fill)?,
     })
 }
 
+// A state has so many, with its name; no choice has more.
+const MOST_FIELDS: usize = 11;
+
 pub fn choose(text: &[u8]) -> Result<Choice, Refusal> {
-    let text = from_utf8(text).map_err(|_| Refusal::Malformed)?;
-    let mut fields = text.split(',');
-    let choice = match field(&mut fields)? {
-        "terminal" => Choice::Terminal,
-        "printer" => Choice::Printer(
-            SynchronousStatus::from(decode_array(field(&mut fields)?.as_bytes())?),
-            ExpeditedStatus::from(decode_array(field(&mut fields)?.as_bytes())?),
-        ),
-        "state" => Choice::State(state(&mut fields)?),
-        _ => return Err(Refusal::Malformed),
-    };
-    match fields.next() {
-        None => Ok(choice),
-        Some(_) => Err(Refusal::Malformed),
+    let mut fields: [&[u8]; MOST_FIELDS] = [b""; MOST_FIELDS];
+    let mut count = 0;
+    for field in text.split(|byte| *byte == b',') {
+        if count >= MOST_FIELDS {
+            return Err(Refusal::Malformed);
+        }
+        fields[count] = field;
+        count += 1;
+    }
+    match fields.get(..count) {
+        Some([b"terminal"]) => Ok(Choice::Terminal),
+        Some([b"printer", end, status]) => Ok(Choice::Printer(
+            SynchronousStatus::from(decode_array(end)?),
+            ExpeditedStatus::from(decode_array(status)?),
+        )),
+        Some([b"state", fields @ ..]) => Ok(Choice::State(state(
+            fields.as_array().ok_or(Refusal::Malformed)?,
+        )?)),
+        _ => Err(Refusal::Malformed),
     }
 }

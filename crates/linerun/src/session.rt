@@ -111,6 +111,8 @@ impl Session {
     fn choose(&mut self, text: &[u8], answers: &mut Vec<u8>) -> Result<(), Failure> {
         let choice = parse::choose(text)?;
         let marks = self.marks.take();
+        // First of all its memory is given back, so that the next line finds it.
+        self.line = None;
         self.line = self.chosen(choice)?.map(|line| lost_over(line, marks));
         self.pokes.clear();
         Ok(match self.line {
