@@ -1,6 +1,9 @@
 -- Which texts spell a row, and which row.
-use Rattle.std.proofs.Common.{◌≡◌, ℕ, zero, suc, ◌*◌, ◌/◌, ◌<◌, Bool, true, false, ◌&&◌, List, [], ◌∷◌, length, get_or, is_some, Some, None, Option, refl, arith}
+use Rattle.std.proofs.Common.{◌≡◌, ℕ, zero, suc, ◌+◌, ◌*◌, ◌/◌, ◌<◌, Bool, true, false, ◌&&◌, List, [], ◌∷◌, length, get_or, set, is_some, Some, None, Option, refl, arith}
 use Rattle.std.proofs.Math.Bool.{and_assoc, and-false}
+use Rattle.std.proofs.lemmas.Grind.{get_or-set_at}
+use Rattle.std.proofs.lemmas.List.{get_or-set_other}
+use Rattle.std.specs.Option.{unwrap_or}
 use Rattle.std.specs.Simd.{first_chunks}
 use Rattle.hexadecimal.specs.Hex.{byte_in, pair_byte, before, row_in, all_digits}
 
@@ -59,3 +62,12 @@ pub row_filled : (bs text : List ℕ) (pairs : List (List ℕ)) → pairs ≡ fi
 row_filled bs text pairs e long each =
     let half : length text / 2 ≡ length bs = omega arith in
     filled bs text long (rw (e, half) at each)
+
+-- a row that is filled below n, and at n too, is filled below n + 1
+pub one_more : (n : ℕ) (pairs : List (List ℕ)) (bs : List ℕ) (b : ℕ) → n < length bs → ((k : ℕ) → k < n → pair_byte (get_or pairs k []) ≡ Some (get_or bs k 0)) → pair_byte (get_or pairs n []) ≡ Some b → (k : ℕ) → k < n + 1 → pair_byte (get_or pairs k []) ≡ Some (get_or (set bs n b) k 0)
+one_more n pairs bs b inside each here k below = grind (arith, get_or-set_at, get_or-set_other)
+
+-- what there is, is what an Option gives in its stead
+pub given : (o : Option ℕ) → is_some o ≡ true → o ≡ Some (unwrap_or o 0)
+given (Some b) e = refl
+given None e = let z : false ≡ true = e in cc
