@@ -27,14 +27,12 @@ pub struct Session {
     marks: Option<[Mark; 64]>,
 }
 
-// The line, lost over by the marks, if there are any.
-fn lost_over(line: HallLine, marks: Option<[Mark; 64]>) -> HallLine {
-    match (line, marks) {
-        (HallLine::Terminal(line), Some(marks)) => {
-            HallLine::LosingTerminal(Losing::new(line, marks))
-        }
-        (HallLine::Printer(line), Some(marks)) => HallLine::LosingPrinter(Losing::new(line, marks)),
-        (line, _) => line,
+// The line, lost over by the marks.
+fn lost_over(line: HallLine, marks: [Mark; 64]) -> HallLine {
+    match line {
+        HallLine::Terminal(line) => HallLine::LosingTerminal(Losing::new(line, marks)),
+        HallLine::Printer(line) => HallLine::LosingPrinter(Losing::new(line, marks)),
+        line => line,
     }
 }
 
@@ -61,8 +59,9 @@ impl Session {
     }
 
     fn send(&mut self, letter: u8, text: &[u8], answers: &mut Vec<u8>) -> Result<(), Failure> {
-        let command = parse::command(text)?;
-        let reply = line::issue(self.line()?, command);
+        // The line comes first: the compiler then goes from a command's letter straight to its sending.
+        let line = self.line()?;
+        let reply = line::issue(line, parse::command(text)?);
         Ok(write_reply(letter, reply, answers)?)
     }
 
@@ -86,7 +85,9 @@ impl Session {
         Ok(memory)
     }
 
-    fn restored(&self, given: Given) -> Result<Option<Terminal>, AllocError> {
+    // The line in use gives its memory back first, so that the new one finds it.
+    fn restored(&mut self, given: Given) -> Result<Option<Terminal>, AllocError> {
+        self.line = None;
         if given.size > MOST_BYTES {
             return Ok(None);
         }
@@ -97,7 +98,7 @@ impl Session {
     }
 
     // The line that is chosen, unless its state is not lawful.
-    fn chosen(&self, choice: Choice) -> Result<Option<HallLine>, AllocError> {
+    fn chosen(&mut self, choice: Choice) -> Result<Option<HallLine>, AllocError> {
         Ok(match choice {
             Choice::Terminal => Some(HallLine::Terminal(Terminal::new(self.heap)?)),
             Choice::Printer(end, status) => {
@@ -108,12 +109,13 @@ impl Session {
     }
 
     // Ends the line in use for another, which takes what is noted.
+    #[inline(never)]
     fn choose(&mut self, text: &[u8], answers: &mut Vec<u8>) -> Result<(), Failure> {
         let choice = parse::choose(text)?;
-        let marks = self.marks.take();
-        // First of all its memory is given back, so that the next line finds it.
-        self.line = None;
-        self.line = self.chosen(choice)?.map(|line| lost_over(line, marks));
+        self.line = self.chosen(choice)?;
+        if let Some(marks) = self.marks.take() {
+            self.line = self.line.take().map(|line| lost_over(line, marks));
+        }
         self.pokes.clear();
         Ok(match self.line {
             Some(_) => answers.extend_from_slice(b"L,made\n")?,
@@ -121,7 +123,10 @@ impl Session {
         })
     }
 
-    pub fn answer(&mut self, text: &[u8], answers: &mut Vec<u8>) -> Result<(), Failure> {
+    // What is told, noted, chosen or shown. It is rarer than a command and stands apart, since each command would pay for
+    // what it keeps on the stack.
+    #[inline(never)]
+    fn manage(&mut self, text: &[u8], answers: &mut Vec<u8>) -> Result<(), Failure> {
         match text {
             [b'E', b',', event @ ..] => {
                 let event = Event::from(decode_array(event)?);
@@ -138,6 +143,13 @@ impl Session {
             }
             [b'L', b',', choice @ ..] => self.choose(choice, answers),
             [b'T'] => Ok(write_telling(self.line()?.telling(), answers)?),
+            _ => Err(Failure::Refused(Refusal::Malformed)),
+        }
+    }
+
+    pub fn answer(&mut self, text: &[u8], answers: &mut Vec<u8>) -> Result<(), Failure> {
+        match text {
+            [b'E' | b'F' | b'M' | b'Z' | b'L' | b'T', ..] => self.manage(text, answers),
             [letter, ..] => self.send(*letter, text, answers),
             [] => Err(Failure::Refused(Refusal::Malformed)),
         }
