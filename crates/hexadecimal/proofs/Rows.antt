@@ -67,7 +67,7 @@ row_filled bs text pairs e long each =
 pub one_more : (n : ℕ) (pairs : List (List ℕ)) (bs : List ℕ) (b : ℕ) → n < length bs → ((k : ℕ) → k < n → pair_byte (get_or pairs k []) ≡ Some (get_or bs k 0)) → pair_byte (get_or pairs n []) ≡ Some b → (k : ℕ) → k < n + 1 → pair_byte (get_or pairs k []) ≡ Some (get_or (set bs n b) k 0)
 one_more n pairs bs b inside each here k below = grind (arith, get_or-set_at, get_or-set_other)
 
--- what there is, is what an Option gives in its stead
+-- an Option that holds a number holds the one that `unwrap_or` gives
 pub given : (o : Option ℕ) → is_some o ≡ true → o ≡ Some (unwrap_or o 0)
 given (Some b) e = refl
 given None e = let z : false ≡ true = e in cc

@@ -38,7 +38,8 @@ pub fn encode(byte: u8) -> [u8; 2]
     [digit(byte / 16), digit(byte)]
 }
 
-// What a character counts that is known to be a digit. With no jump, which a row of mixed digits would pay for.
+// What a character counts that is known to be a digit: its low four bits, and nine more for a letter, whose codes begin
+// at 65. The last remainder bounds it for any other character. It has no jump, which would cost a row of mixed digits.
 #[tactic(auto, unfolding(crate::specs::Hex::digit_value))]
 fn known_value(digit: u8) -> u8
     ensures value { (v : ℕ) → digit_value digit ≡ Some v → result ≡ v }

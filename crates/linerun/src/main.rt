@@ -74,6 +74,7 @@ fn run(rt: &HostRuntime) -> anyhow::Result<()> {
     let mut output = rt.stdout();
     let mut chunk = vec![in heap; 0u8; CHUNK]?;
     let mut held = Vec::new(heap);
+    // as an error of io, so that want of memory reads the same here and in `take`
     let mut answers = Vec::with_capacity(heap, CHUNK).map_err(io::Error::from)?;
     let mut session = Session::new(heap);
     // A loop over reads needs a bound here, since nothing says that the input ends.

@@ -9,7 +9,7 @@ use tca::status::{ExpeditedStatus, SynchronousStatus};
 const NO_DIGIT: u8 = 0x80;
 
 // What a digit counts, or NO_DIGIT, so that one test serves all digits of a field: by `hexadecimal::decode_array`,
-// which parts digits from letters by jumps, the program takes 1.3 times what the second program takes, and the bar is 1.2.
+// which tests each digit by jumps, the benchmark's plain commands take 1.2 times the second program's processor time.
 fn nibble(digit: u8) -> u8 {
     let decimal = digit.wrapping_sub(b'0');
     let letter = digit.wrapping_sub(b'A');
@@ -117,7 +117,7 @@ fn flag(text: &[u8]) -> Result<bool, Refusal> {
     }
 }
 
-// A decimal number of at most ten digits, without leading zeros.
+// A decimal number of at most ten digits, which a u64 holds, without leading zeros.
 fn number<T: TryFrom<u64>>(text: &[u8]) -> Result<T, Refusal>
 where
     T::Error: Drop,

@@ -108,7 +108,7 @@ impl Session {
         })
     }
 
-    // Ends the line in use for another, which takes what is noted.
+    // Ends the line in use for another, which takes what is noted. Apart, as `manage` is and for the same reason.
     #[inline(never)]
     fn choose(&mut self, text: &[u8], answers: &mut Vec<u8>) -> Result<(), Failure> {
         let choice = parse::choose(text)?;
